@@ -1,0 +1,1 @@
+// Pure mathematics that the other crates cite: `specs/` has the definitions, `proofs/` the laws. There is no code here.
