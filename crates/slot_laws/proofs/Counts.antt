@@ -1,0 +1,50 @@
+-- What the slots of a table's run show, and the total of its dropped units, read off the placings alone.
+use Prim.Native.Nat.{ℕ, zero, suc}
+use mathlib.Core.Path.{_≡_, sym, ap, _∙_}
+use mathlib.Core.Bool.{_&&_}
+use mathlib.Core.List.{map}
+use lib.Dec.{ltb}
+use lib.ListN.{length, length-replicate}
+use Rattle.laws.specs.Lists.{count, sum, from, numbers, each}
+use Rattle.laws.proofs.Each.{length-each, each-at, each-cong}
+use Rattle.rules.specs.Rows.{due}
+use Rattle.rules.specs.Tables.{Table, size, rowOf}
+use Rattle.rules.specs.States.{fresh}
+use Rattle.rules.specs.Slots.{Shown, slot, effect}
+use Rattle.rules.specs.Runs.{after, shows}
+use Rattle.rules.specs.Counts.{coresIn, movedTo, shortAt, droppedBy}
+use Rattle.slot_laws.proofs.After.{after-suc, shows-each}
+use Rattle.slot_laws.proofs.Boundaries.{table-at, shown-slot}
+use Rattle.slot_laws.proofs.MoveCounts.{moves-shown}
+use Rattle.slot_laws.proofs.MissCounts.{dropped-counted, misses-shown}
+
+-- slot s: its number, its placing, and its own share of the moves and of the misses
+abbrev pub shownIn : Table → ℕ → Shown
+shownIn tbl s =
+    record {
+      slot = s;
+      cores = coresIn tbl s;
+      moves = count (movedTo (coresIn tbl) s) (numbers (tbl .m));
+      misses = count (λ i. due (rowOf tbl i) (suc s) && ltb 0 (shortAt tbl (coresIn tbl) i (suc s))) (numbers (size tbl));
+    }
+
+-- a slot of a table's run shows just that
+pub shown-counted : (tbl : Table) (s : ℕ) → slot (after s (fresh tbl)) .shown ≡ shownIn tbl s
+unfolding coresIn
+shown-counted tbl s = λ i. record { slot = shown-slot tbl s i; cores = coresIn tbl s; moves = moves-shown tbl s i; misses = misses-shown tbl s i }
+
+-- what the first b slots of a run show
+pub shows-counted : (tbl : Table) (b : ℕ) → shows b (fresh tbl) ≡ map (shownIn tbl) (from 0 b)
+shows-counted tbl b = shows-each b (fresh tbl) ∙ simp (shown-counted tbl)
+
+-- the total of the dropped units
+dropped-length : (tbl : Table) (b : ℕ) → length (after b (fresh tbl) .dropped) ≡ size tbl
+unfolding after fresh slot effect
+dropped-length tbl zero = length-replicate (size tbl) 0
+dropped-length tbl (suc b) = rw (after-suc b (fresh tbl), table-at tbl b) (length-each (size tbl) _)
+
+pub dropped-total : (tbl : Table) (b : ℕ) → sum (after b (fresh tbl) .dropped) ≡ sum (each (size tbl) (λ i. droppedBy tbl (coresIn tbl) i b))
+dropped-total tbl b =
+    ap sum
+    (sym (each-at (size tbl) (after b (fresh tbl) .dropped) (dropped-length tbl b))
+    ∙ each-cong (size tbl) _ _ (λ i low high. dropped-counted tbl i low high b))

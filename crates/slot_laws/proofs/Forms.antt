@@ -1,0 +1,145 @@
+-- What the tests of a table and of a state say: records of facts, and that a test passes exactly where its facts hold.
+use Prim.Native.Nat.{ℕ, _+_, _*_, _≤_}
+use mathlib.Core.Path.{_≡_}
+use mathlib.Core.Bool.{true, not, _&&_, _||_}
+use lib.Dec.{T, eqb, leb→le, le→leb, nltb→le, eqb→eq}
+use lib.Arith.{le→nltb}
+use lib.ListN.{length}
+use Rattle.laws.specs.Lists.{all, at, same}
+use Rattle.laws.proofs.Tests.{and-T, and-left, and-right, same→eq, same-refl}
+use Rattle.laws.proofs.Each.{all-numbers, numbers-all}
+use Rattle.laws.proofs.Entries.{neither-left, neither-right, neither, imply, implies, eq-T, not-zero, zero-not, all-append, all-join, all-entry, entry-all}
+use Rattle.rules.specs.Limits.{coresMin, coresMax, tasksMin, tasksMax, periodMax, repeatMax, clockMax}
+use Rattle.rules.specs.Refusals.{passes}
+use Rattle.rules.specs.Rows.{Row, releases, released}
+use Rattle.rules.specs.Repeat.{repeatLength}
+use Rattle.rules.specs.Tables.{Table, size, noRow, rowOf, headerTests, rowTests, wholeTests, listTests, accepts}
+use Rattle.rules.specs.Verdicts.{order}
+use Rattle.rules.specs.States.{State}
+use Rattle.rules.specs.Forms.{sized, taskFormed, wellFormed}
+
+-- ---- a table
+
+-- what the tests of a row leave: 1 ≤ C ≤ T ≤ 65,535
+pub record RowFits (r : Row) : Type 0 where
+  pub low : 1 ≤ r .c
+  pub within : r .c ≤ r .t
+  pub high : r .t ≤ periodMax
+
+-- what the tests of a list of rows leave
+pub record Accepted (tbl : Table) : Type 0 where
+  pub cores-low : coresMin ≤ tbl .m
+  pub cores-high : tbl .m ≤ coresMax
+  pub tasks-low : tasksMin ≤ size tbl
+  pub tasks-high : size tbl ≤ tasksMax
+  pub row : (i : ℕ) → 1 ≤ i → i ≤ size tbl → RowFits (rowOf tbl i)
+  pub repeat : repeatLength (tbl .rows) ≤ repeatMax
+
+-- a row passes its tests exactly where it fits
+pub row-fits : (r : Row) → T (passes (rowTests r)) → RowFits r
+unfolding rowTests
+row-fits r t =
+    record {
+      low = search (and-left, neither-left, not-zero);
+      within = search (and-left, neither-left, neither-right, nltb→le);
+      high = search (and-left, neither-right, nltb→le);
+    }
+
+pub fits-row : (r : Row) → RowFits r → T (passes (rowTests r))
+unfolding rowTests
+fits-row r f = search (and-T, neither, zero-not, le→nltb)
+
+-- the tests of a table, one after the other
+accepts-parts : (tbl : Table)
+    → accepts tbl ≡ passes (headerTests (tbl .m) (size tbl)) && all (λ r. passes (rowTests r)) (tbl .rows) && passes (wholeTests (tbl .rows))
+unfolding accepts listTests
+accepts-parts tbl = simp (all-append, all-join)
+
+-- a table is accepted exactly where these facts hold
+pub accepted : (tbl : Table) → T (accepts tbl) → Accepted tbl
+unfolding headerTests wholeTests
+accepted tbl t =
+    let parts = rw (accepts-parts tbl) at t in
+    record {
+      cores-low = search (and-left, neither-left, nltb→le);
+      cores-high = search (and-left, neither-right, nltb→le);
+      tasks-low = search (and-left, and-right, neither-left, nltb→le);
+      tasks-high = search (and-left, and-right, neither-right, nltb→le);
+      row =
+          λ i low high.
+          row-fits (rowOf tbl i) (all-entry (λ r. passes (rowTests r)) noRow (tbl .rows) (search (and-left, and-right)) i low high);
+      repeat = search (and-left, and-right, nltb→le);
+    }
+
+pub accepts-of : (tbl : Table) → Accepted tbl → T (accepts tbl)
+unfolding headerTests wholeTests
+accepts-of tbl a =
+    let rows = entry-all (λ r. passes (rowTests r)) noRow (tbl .rows) (λ i low high. fits-row (rowOf tbl i) (a .row i low high)) in
+    rw (accepts-parts tbl) (search (and-T, neither, le→nltb) depth 9)
+
+-- ---- a state
+
+-- what is kept of task i: left work at most C, and 0 where T divides the clock; a last core of 0 to m; and its books
+pub record TaskKept (st : State) (i : ℕ) : Type 0 where
+  pub fits : at (st .left) i ≤ rowOf (st .table) i .c
+  pub spent : releases (rowOf (st .table) i) (st .clock) ≡ true → at (st .left) i ≡ 0
+  pub core : at (st .last) i ≤ st .table .m
+  pub books : at (st .done) i + at (st .left) i + at (st .dropped) i ≡ released (rowOf (st .table) i) (st .clock)
+
+-- all that makes a state well formed, but for the bound of its clock
+pub record Kept (st : State) : Type 0 where
+  pub taken : Accepted (st .table)
+  pub left-length : length (st .left) ≡ size (st .table)
+  pub last-length : length (st .last) ≡ size (st .table)
+  pub done-length : length (st .done) ≡ size (st .table)
+  pub dropped-length : length (st .dropped) ≡ size (st .table)
+  pub ranked : st .ranks ≡ order (st .table)
+  pub task : (i : ℕ) → 1 ≤ i → i ≤ size (st .table) → TaskKept st i
+  pub moves-few : st .moves ≤ st .table .m * st .clock
+  pub misses-few : st .misses ≤ tasksMax * st .clock
+
+-- a task is well formed exactly where this is kept of it
+task-kept : (st : State) (i : ℕ) → T (taskFormed st i) → TaskKept st i
+unfolding taskFormed
+task-kept st i t =
+    let empty : T (not (releases (rowOf (st .table) i) (st .clock)) || eqb (at (st .left) i) 0) = search (and-left, and-right) in
+    record {
+      fits = search (and-left, leb→le);
+      spent = λ e. eqb→eq (at (st .left) i) 0 (imply (releases (rowOf (st .table) i) (st .clock)) (eqb (at (st .left) i) 0) empty e);
+      core = search (and-left, and-right, leb→le);
+      books = search (and-right, eqb→eq);
+    }
+
+task-formed : (st : State) (i : ℕ) → TaskKept st i → T (taskFormed st i)
+unfolding taskFormed
+task-formed st i k =
+    let empty = implies (releases (rowOf (st .table) i) (st .clock)) (eqb (at (st .left) i) 0) (λ e. eq-T (at (st .left) i) 0 (k .spent e)) in
+    search (and-T, le→leb, eq-T) depth 9
+
+-- a state is well formed exactly where it is kept and its clock is in bounds
+pub formed-kept : (st : State) → T (wellFormed st) → Kept st
+unfolding wellFormed sized
+formed-kept st t =
+    record {
+      taken = accepted (st .table) (search (and-left));
+      left-length = search (and-left, and-right, eqb→eq) depth 9;
+      last-length = search (and-left, and-right, eqb→eq) depth 9;
+      done-length = search (and-left, and-right, eqb→eq) depth 9;
+      dropped-length = search (and-left, and-right, eqb→eq) depth 9;
+      ranked = search (and-left, and-right, same→eq);
+      task = λ i low high. task-kept st i (all-numbers (taskFormed st) (size (st .table)) (search (and-left, and-right)) i low high);
+      moves-few = search (and-left, and-right, leb→le);
+      misses-few = search (and-right, leb→le);
+    }
+
+pub formed-clock : (st : State) → T (wellFormed st) → st .clock ≤ clockMax
+unfolding wellFormed
+formed-clock st t = search (and-left, and-right, leb→le)
+
+pub kept-formed : {st : State} → Kept st → st .clock ≤ clockMax → T (wellFormed st)
+unfolding wellFormed sized
+kept-formed {st} k h =
+    let table = accepts-of (st .table) (k .taken) in
+    let tasks = numbers-all (taskFormed st) (size (st .table)) (λ i low high. task-formed st i (k .task i low high)) in
+    let ranks : T (same (st .ranks) (order (st .table))) = rw (k .ranked) (same-refl (order (st .table))) in
+    search (and-T, le→leb, eq-T) depth 9

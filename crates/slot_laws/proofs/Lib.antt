@@ -1,0 +1,11 @@
+pub mod After
+pub mod Choosing
+pub mod Placing
+pub mod Forms
+pub mod Books
+pub mod Lengths
+pub mod Boundaries
+pub mod WorkCounts
+pub mod MoveCounts
+pub mod MissCounts
+pub mod Counts
