@@ -1,0 +1,5 @@
+pub mod Frames
+pub mod Tests
+pub mod Outcomes
+pub mod Files
+pub mod Lays
