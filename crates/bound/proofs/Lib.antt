@@ -1,0 +1,15 @@
+pub mod SumBefore
+pub mod Bookkeeping
+pub mod OneSlot
+pub mod Shares
+pub mod Numbers
+pub mod Theorem
+pub mod Prefixes
+pub mod Chosen
+pub mod Ranked
+pub mod Scheduled
+pub mod NoMiss
+pub mod KeepUp
+pub mod Demand3
+pub mod Rounds
+pub mod Repetition
