@@ -1,0 +1,11 @@
+pub mod Bounds
+pub mod Views
+pub mod Repeats
+pub mod Pairs
+pub mod Rows
+pub mod Files
+pub mod Lists
+pub mod Writes
+pub mod Headers
+pub mod Unique
+pub mod RoundTrips
