@@ -1,0 +1,3 @@
+pub mod PairLoop
+pub mod SlotFrame
+pub mod RefusalFrame
