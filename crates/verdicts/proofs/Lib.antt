@@ -1,0 +1,14 @@
+pub mod Columns
+pub mod Products
+pub mod Counting
+pub mod Summing
+pub mod Judging
+pub mod Keys
+pub mod Inserting
+pub mod Ordering
+pub mod Laying
+pub mod Testing
+pub mod Splitting
+pub mod Structs
+pub mod Unique
+pub mod Accepted

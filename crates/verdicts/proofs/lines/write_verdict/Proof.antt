@@ -1,0 +1,103 @@
+-- `verdicts::lines::write_verdict` meets its contract: the type, three fields and the line feed, one right after the other.
+use native.Mathlib.Omega.{arith}
+use denote.Ref.{now}
+use borrow.Author.Needs.{needs}
+use Rattle.laws.specs.Digits.{field}
+use Rattle.laws.proofs.Digits.{length-field}
+use Rattle.rules.specs.Verdicts.{verdictByte}
+use Rattle.verdicts.specs.Lines.{verdictFrame}
+use Rattle.verdicts.proofs.Laying.{length-verdict, verdict-parts, first, more, fed, line-kept}
+use Rattle.verdicts.proofs.lines.write_verdict.Statement.{statement}
+use Rattle.verdicts.proofs.lines.write_verdict.Tie as tie
+
+write-field-requires : tie.Need-write-field-requires
+write-field-requires c κs = search needs
+
+sub-write-field : tie.Need-sub-write-field
+sub-write-field c = search needs
+
+part-write-field-start : tie.Need-part-write-field-start
+part-write-field-start c = search needs
+
+part-write-field-end : tie.Need-part-write-field-end
+part-write-field-end c = search needs
+
+byte-requires : tie.Need-byte-requires
+byte-requires c κs = search needs
+
+cast-write-field : tie.Need-cast-write-field
+cast-write-field c = search needs
+
+write-field-requires-2 : tie.Need-write-field-requires-2
+write-field-requires-2 c κs = search needs
+
+sub-write-field-2 : tie.Need-sub-write-field-2
+sub-write-field-2 c = search needs
+
+part-write-field-start-2 : tie.Need-part-write-field-start-2
+part-write-field-start-2 c = search needs
+
+part-write-field-end-2 : tie.Need-part-write-field-end-2
+part-write-field-end-2 c = search needs
+
+write-field-requires-3 : tie.Need-write-field-requires-3
+write-field-requires-3 c κs = search needs
+
+sub-write-field-3 : tie.Need-sub-write-field-3
+sub-write-field-3 c = search needs
+
+part-write-field-start-3 : tie.Need-part-write-field-start-3
+part-write-field-start-3 c = search needs
+
+part-write-field-end-3 : tie.Need-part-write-field-end-3
+part-write-field-end-3 c = search needs
+
+write-field-requires-4 : tie.Need-write-field-requires-4
+write-field-requires-4 c κs = search needs
+
+slice-write-out : tie.Need-slice-write-out
+slice-write-out c = search needs
+
+returns : tie.Need-returns
+returns c =
+    let fourth = c .before .before in
+    let third = fourth .before .before .before .before in
+    let second = third .before .before .before .before in
+    let begun = second .before .before .before .before .before in
+    let start = begun .before .before .before in
+    let out = now (start .args .out) in
+    let b = second .before .byte .result in
+    let one = first out (field 2 0x11) 2 (length-field 2 0x11) (begun .write-field .ensures) in
+    let two = more out one (field 2 b) 2 (length-field 2 b) (omega arith) (second .write-field2 .ensures) in
+    let three = more out two (field 2 (start .args .heavy)) 2 (length-field 2 (start .args .heavy)) (omega arith) (third .write-field3 .ensures) in
+    let four = more out three (field 8 (start .args .h)) 8 (length-field 8 (start .args .h)) (omega arith) (fourth .write-field4 .ensures) in
+    rw (← (second .before .byte .ensures), verdict-parts b (start .args .heavy) (start .args .h)) (fed out four 15 (omega arith) (omega arith))
+
+same-length : tie.Need-same-length
+same-length c =
+    let start = c .before .before .before .before .before .before .before .before .before .before .before .before .before .before .before .before .before .before in
+    let a = start .args in
+    line-kept (now (a .out)) (verdictFrame (a .v) (a .heavy) (a .h)) (length-verdict (verdictByte (a .v)) (a .heavy) (a .h)) (start .pre) (returns c)
+
+pub write-verdict-spec : {M : Type 1} → statement M
+write-verdict-spec =
+    tie.close
+    (tie.spec
+    write-field-requires
+    sub-write-field
+    part-write-field-start
+    part-write-field-end
+    byte-requires
+    cast-write-field
+    write-field-requires-2
+    sub-write-field-2
+    part-write-field-start-2
+    part-write-field-end-2
+    write-field-requires-3
+    sub-write-field-3
+    part-write-field-start-3
+    part-write-field-end-3
+    write-field-requires-4
+    slice-write-out
+    same-length
+    returns)
