@@ -1,0 +1,218 @@
+-- The parts of one slot in their order: what each asks follows from what the slot asks, and together they leave what it says.
+use Prim.Native.Nat.{ℕ, zero, suc, _+_, _-_, _≤_, _<_, zero-le}
+use mathlib.Core.Path.{_≡_, sym, ap, _∙_}
+use mathlib.Core.Bool.{Bool, true, false, cond, _&&_}
+use mathlib.Core.Logic.{⊎-elim}
+use mathlib.Core.List.{List, _++_}
+use native.Mathlib.Nat.{le-refl, le-trans, not-suc-le-zero, eq-or-lt-of-le}
+use native.Mathlib.Decide.{decLe}
+use native.Mathlib.Omega.{arith}
+use lib.Dec.{eqb, ltb}
+use lib.ListN.{length, getD, take, drop, List·getD-eq-default}
+use Rattle.laws.specs.Lists.{count, numbers, each, at, position}
+use Rattle.laws.proofs.Each.{length-each, at-each}
+use Rattle.laws.proofs.Filling.{front-taken, front-fits, at-pred}
+use Rattle.laws.proofs.Positions.{StandsAt, position-stands, entry-counted}
+use Rattle.rules.specs.Slots.{choose, place, given}
+use Rattle.slot_laws.proofs.Choosing.{Choice, Ranking, choose-choice, choose-pending}
+use Rattle.slot_laws.proofs.Placing.{place-length, place-holds}
+use Rattle.engine.specs.Choice.{Named, Chose}
+use Rattle.engine.specs.Ends.{nextPhase, Ending, Ended}
+use Rattle.engine.specs.Ends.{ending as endsAt}
+use Rattle.engine.specs.Placing.{Placing}
+use Rattle.engine.specs.Work.{Working, Worked}
+use Rattle.engine.specs.Step.{Stepped, stepped, releasedOn, coresOn, workedOn, effectOn, stepOn, Ready}
+
+-- where a number other than 0 stands is a position of the list
+at-positive : (l : List ℕ) (i : ℕ) → 1 ≤ at l i → (1 ≤ i) × (i ≤ length l)
+at-positive l zero h = absurd (not-suc-le-zero h)
+at-positive l (suc i) h =
+    (omega arith, elim (decLe (suc i) (length l)) [ yes within ↦ within | no beyond ↦ absurd (omega (arith, List·getD-eq-default l 0 {n = i} (omega arith))) ])
+
+-- the lesser of two, or the greater
+cond-below : (b : Bool) {x y : ℕ} → x ≤ y → cond b y x ≤ y
+cond-below true {y = y} h = le-refl y
+cond-below false h = h
+
+-- no task is numbered 0
+named-real : {n : ℕ} {l : List ℕ} → Named n l → count (eqb 0) l ≡ 0
+named-real {l = l} named =
+    ⊎-elim sym
+    (λ (h : 0 < count (eqb 0) l).
+    let s : StandsAt 0 l (position 0 l) = position-stands 0 l h in
+    absurd (omega (arith, named .from (position 0 l - 1) (omega (arith, s .low, s .high)), at-pred l (position 0 l) (s .low), s .here)))
+    (eq-or-lt-of-le zero-le)
+
+module _ {m : ℕ} {c t ranks phase left last done dropped : List ℕ} (r : Ready m c t ranks phase left last done dropped) where
+  abbrev units : List ℕ
+  units = releasedOn c phase left
+
+  abbrev chosen : List ℕ
+  chosen = choose m ranks units
+
+  abbrev cores : List ℕ
+  cores = coresOn m ranks last units
+
+  units-size : length units ≡ length left
+  unfolding releasedOn
+  units-size = length-each (length left) _
+
+  -- a task has at most its C left
+  units-small : (i : ℕ) → 1 ≤ i → i ≤ length left → at units i ≤ at c i
+  unfolding releasedOn
+  units-small i low high = rw (at-each (length left) _ i low high) (cond-below (eqb (at phase i) 0) (r .lefts i low high))
+
+  ranking : Ranking ranks
+  ranking = record { once = r .once; real = named-real (r .named) }
+
+  choice : Choice m chosen
+  choice = choose-choice m units ranking
+
+  -- a chosen task is a task
+  chosen-within : (i : ℕ) → 1 ≤ count (eqb i) chosen → (1 ≤ i) × (i ≤ length left)
+  chosen-within i h = rw units-size at (at-positive units i (le-trans h (choose-pending m units ranking i)))
+
+  -- What each part asks, of what the parts before it leave.
+
+  named-chosen : Named (length last) chosen
+  named-chosen =
+      rw (r .last-size)
+      (record {
+        from = λ j h. chosen-within (getD chosen j 0) (entry-counted chosen j h) .0;
+        to = λ j h. chosen-within (getD chosen j 0) (entry-counted chosen j h) .1;
+      })
+
+  -- the cores hold no task twice
+  cores-once : (i : ℕ) → 1 ≤ i → count (eqb i) cores ≤ 1
+  unfolding coresOn
+  cores-once i low = omega (arith, place-holds choice last i low, choice .once i)
+
+  -- so whatever a slot may leave, no task holds two cores in it
+  pub one-core-a-task : {phase′ left′ last′ done′ dropped′ cores′ : List ℕ} {moves misses : ℕ}
+      → stepped phase′ left′ last′ done′ dropped′ cores′ moves misses ≡ stepOn m c t ranks phase left last done dropped → (i : ℕ) → 1 ≤ i → count (eqb i) cores′ ≤ 1
+  unfolding stepOn effectOn
+  one-core-a-task e i low = rw (ap (λ (s : Stepped). s .cores) e) (cores-once i low)
+
+  cores-within : (k : ℕ) → k < length cores → getD cores k 0 ≤ length left
+  unfolding coresOn
+  cores-within k more =
+      let i : ℕ = getD cores k 0 in
+      ⊎-elim (λ (e : 0 ≡ i). omega arith)
+      (λ (low : 0 < i). chosen-within i (omega (arith, place-holds choice last i low, entry-counted cores k more)) .1)
+      (eq-or-lt-of-le zero-le)
+
+  working : Working cores units last done
+  unfolding coresOn
+  working =
+      record {
+        few-tasks = omega (arith, r .few-tasks, units-size);
+        few-cores = omega (arith, r .few-cores, place-length m last chosen);
+        last-size = r .last-size ∙ sym units-size;
+        done-size = r .done-size ∙ sym units-size;
+        within = λ k more. omega (arith, cores-within k more, units-size);
+        once = cores-once;
+        pending = λ i low high. omega (arith, place-holds choice last i low, choose-pending m units ranking i);
+        fits = λ i low high. r .done-fits i low (omega (arith, units-size));
+      }
+
+  worked-size : length (workedOn units cores) ≡ length left
+  unfolding workedOn
+  worked-size = length-each (length units) _ ∙ units-size
+
+  worked-small : (i : ℕ) → 1 ≤ i → i ≤ length left → at (workedOn units cores) i ≤ at c i
+  unfolding workedOn
+  worked-small i low high =
+      rw (at-each (length units) (λ j. at units j - given cores j) i low (omega (arith, units-size))) (omega (arith, units-small i low high))
+
+  ending : Ending t phase (workedOn units cores) dropped
+  ending =
+      record {
+        few = omega (arith, r .few-tasks, worked-size);
+        t-size = r .t-size ∙ sym worked-size;
+        phase-size = r .phase-size ∙ sym worked-size;
+        dropped-size = r .dropped-size ∙ sym worked-size;
+        phases = λ j h. r .phases (suc j) (omega arith) (omega (arith, worked-size));
+        fits = λ j h. omega (arith, r .dropped-fits (suc j) (omega arith) (omega (arith, worked-size)), worked-small (suc j) (omega arith) (omega (arith, worked-size)));
+      }
+
+  -- The parts of the code, one after the other.
+
+  -- after the releases
+  module _ {left₁ : List ℕ} (released : left₁ ≡ each (length left) (λ i. cond (eqb (at phase i) 0) (at c i) (at left i))) where
+    left-is : left₁ ≡ units
+    unfolding releasedOn
+    left-is = released
+
+    -- what choosing asks
+    pub choosing : Named (length left₁) ranks
+    choosing = rw (left-is, units-size) (r .named)
+
+    -- after the choice
+    module _ {lent picked : List ℕ} {k : ℕ} (room : length lent ≡ m) (chose : Chose ranks left₁ lent picked k) (rest : List ℕ) where
+      chosen-is : choose (length lent) ranks left₁ ≡ chosen
+      chosen-is = rw (room, left-is)
+
+      picked-is : take k (picked ++ rest) ≡ chosen
+      picked-is = front-taken (choose (length lent) ranks left₁) (drop k lent) (chose .number) (chose .entries) rest ∙ chosen-is
+
+      -- the chosen tasks stand first in what was lent
+      pub picked-fit : k ≤ length (picked ++ rest)
+      picked-fit = front-fits (choose (length lent) ranks left₁) (drop k lent) (chose .number) (chose .entries) rest
+
+      -- what placing asks
+      pub placing : {before : List ℕ} → length before ≡ m → Placing (take k (picked ++ rest)) last before
+      placing width =
+          rw picked-is
+          (record {
+            few = omega (arith, choice .few);
+            once = choice .once;
+            real = choice .real;
+            named = named-chosen;
+            lasts = λ j h. omega (arith, r .lasts (suc j) (omega arith) (omega (arith, r .last-size)));
+            small = omega (arith, r .few-cores);
+          })
+
+      -- after the placing
+      module _ {cores₁ : List ℕ} (placed : cores₁ ≡ place m last (take k (picked ++ rest))) where
+        cores-is : cores₁ ≡ cores
+        unfolding coresOn
+        cores-is = placed ∙ rw picked-is
+
+        -- what the work asks
+        pub to-work : Working cores₁ left₁ last done
+        to-work = rw (cores-is, left-is) working
+
+        -- after the work
+        module _ {left₂ last₁ done₁ : List ℕ} {moves : ℕ} (worked : Worked cores₁ left₁ last done left₂ last₁ done₁ moves) where
+          worked-on : Worked cores units last done left₂ last₁ done₁ moves
+          worked-on = rw (cores-is, left-is) at worked
+
+          worked-is : left₂ ≡ workedOn units cores
+          unfolding workedOn
+          worked-is = worked-on .lefts
+
+          -- what the end asks
+          pub to-end : Ending t phase left₂ dropped
+          to-end = rw worked-is ending
+
+          -- after the end
+          module _ {phase₁ left₃ dropped₁ : List ℕ} {misses : ℕ} (ended : Ended t phase left₂ dropped phase₁ left₃ dropped₁ misses) where
+            ended-on : Ended t phase (workedOn units cores) dropped phase₁ left₃ dropped₁ misses
+            ended-on = rw worked-is at ended
+
+            -- all that the slot leaves
+            pub whole : stepped phase₁ left₃ last₁ done₁ dropped₁ cores₁ moves misses ≡ stepOn m c t ranks phase left last done dropped
+            unfolding stepOn effectOn
+            whole =
+                let size : length (workedOn units cores) ≡ length units = worked-size ∙ sym units-size in
+                λ j.
+                record {
+                  phase = (ended-on .phases ∙ ap (λ (n : ℕ). each n (λ i. nextPhase (at phase i) (at t i))) size) j;
+                  left = (ended-on .lefts ∙ ap (λ (n : ℕ). each n (λ i. cond (endsAt phase t i) 0 (at (workedOn units cores) i))) size) j;
+                  last = worked-on .lasts j;
+                  done = worked-on .dones j;
+                  dropped = (ended-on .drops ∙ ap (λ (n : ℕ). each n (λ i. at dropped i + cond (endsAt phase t i) (at (workedOn units cores) i) 0)) size) j;
+                  cores = cores-is j;
+                  moves = worked-on .number j;
+                  misses = (ended-on .number ∙ ap (λ (n : ℕ). count (λ i. endsAt phase t i && ltb 0 (at (workedOn units cores) i)) (numbers n)) size) j;
+                }

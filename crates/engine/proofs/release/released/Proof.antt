@@ -1,0 +1,13 @@
+-- `engine::release::released` meets its contract.
+use borrow.Author.Tests.{eq-eqb, ne-eqb}
+use Rattle.engine.proofs.release.released.Statement.{statement}
+use Rattle.engine.proofs.release.released.Tie as tie
+
+returns : tie.Need-returns
+returns c = rw (eq-eqb _ _ (c .if1 .taken))
+
+returns-2 : tie.Need-returns-2
+returns-2 c = rw (ne-eqb _ _ (c .if1 .left))
+
+pub released-spec : {M : Type 1} → statement M
+released-spec = tie.close (tie.spec returns returns-2)

@@ -1,0 +1,5 @@
+pub mod Choice
+pub mod Ends
+pub mod Placing
+pub mod Step
+pub mod Work

@@ -1,0 +1,55 @@
+// A slot ends: a task whose deadline falls there and that has left work misses, and that work is dropped.
+ghost use mathlib.Core.Path.{_≡_};
+ghost use mathlib.Core.Bool.{cond, _&&_};
+ghost use Prim.Native.Nat.{_<_};
+ghost use lib.Dec.{eqb, ltb};
+ghost use Rattle.engine.specs.Ends.{nextPhase, Ending, Ended};
+
+fn next_phase(phase: u32, t: u32) -> u32
+    requires { ⌜ phase < t ⌝ }
+    ensures { λ r. ⌜ r ≡ nextPhase phase t ⌝ }
+{
+    if phase + 1 == t { 0 } else { phase + 1 }
+}
+
+// In what follows `next` is the task's next phase: 0 where its deadline falls on the slot's end.
+fn kept(next: u32, left: u32) -> u32
+    ensures { λ r. ⌜ r ≡ cond (eqb next 0) 0 left ⌝ }
+{
+    if next == 0 { 0 } else { left }
+}
+
+fn lost(next: u32, left: u32) -> u64
+    ensures { λ r. ⌜ r ≡ cond (eqb next 0) left 0 ⌝ }
+{
+    if next == 0 { left as u64 } else { 0 }
+}
+
+fn missed(next: u32, left: u32) -> u32
+    ensures { λ r. ⌜ r ≡ cond (eqb next 0 && ltb 0 left) 1 0 ⌝ }
+{
+    if next == 0 {
+        if 0 < left { 1 } else { 0 }
+    } else {
+        0
+    }
+}
+
+// The number of misses is returned.
+pub fn end(t: &[u32], phase: &mut [u32], left: &mut [u32], dropped: &mut [u64]) -> u32
+    requires { ⌜ Ending (now t) (now phase) (now left) (now dropped) ⌝ }
+    ensures { λ r. ⌜ Ended (now (t .entry)) (now (phase .entry)) (now (left .entry)) (now (dropped .entry)) (now (phase .exit)) (now (left .exit)) (now (dropped .exit)) r ⌝ }
+{
+    let mut misses = 0;
+    let mut i = 0;
+    while i < left.len() {
+        let next = next_phase(phase[i], t[i]);
+        let units = left[i];
+        phase[i] = next;
+        left[i] = kept(next, units);
+        dropped[i] = dropped[i] + lost(next, units);
+        misses += missed(next, units);
+        i += 1;
+    }
+    misses
+}

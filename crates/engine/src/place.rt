@@ -1,0 +1,94 @@
+// Placing: in priority order, each chosen task whose last core is free takes it; then, in priority order, each other takes the
+// lowest free core. Cores are counted from 1; the entry of `cores` for core k is at k - 1, and 0 where the core is idle.
+ghost use mathlib.Core.Path.{_≡_};
+ghost use Prim.Native.Nat.{_≤_};
+ghost use lib.ListN.{length, replicate};
+ghost use lib.Dec.{eqb};
+ghost use Rattle.laws.specs.Lists.{count, at};
+ghost use Rattle.rules.specs.Slots.{place, free, fillCores, seat};
+ghost use Rattle.engine.specs.Placing.{Placing, Keeping, Kept};
+
+fn clear(cores: &mut [u8])
+    ensures { λ _. ⌜ now (cores .exit) ≡ replicate (length (now (cores .entry))) 0 ⌝ }
+{
+    let mut k = 0;
+    while k < cores.len() {
+        cores[k] = 0;
+        k += 1;
+    }
+}
+
+// The core that task i last ran on, 0 where it has none.
+fn last_core(last: &[u8], i: u8) -> u8
+    requires { ⌜ (1 ≤ i) × (i ≤ length (now last)) ⌝ }
+    ensures { λ r. ⌜ r ≡ at (now (last .entry)) i ⌝ }
+{
+    last[(i - 1) as usize]
+}
+
+fn is_free(cores: &[u8], k: u8) -> bool
+    requires { ⌜ k ≤ length (now cores) ⌝ }
+    ensures { λ r. ⌜ r ≡ free (now (cores .entry)) k ⌝ }
+{
+    if k == 0 {
+        false
+    } else {
+        cores[(k - 1) as usize] == 0
+    }
+}
+
+fn take_core(cores: &mut [u8], k: u8, i: u8)
+    requires { ⌜ (1 ≤ k) × (k ≤ length (now cores)) ⌝ }
+    ensures { λ _. ⌜ now (cores .exit) ≡ seat (now (cores .entry)) k i ⌝ }
+{
+    cores[(k - 1) as usize] = i;
+}
+
+// Each chosen task whose last core is free takes it. The others are put into `others`, and their number is returned.
+fn keep(chosen: &[u8], last: &[u8], cores: &mut [u8], others: &mut [u8]) -> usize
+    requires { ⌜ Keeping (now chosen) (now last) (now cores) (now others) ⌝ }
+    ensures { λ n. ⌜ Kept (now (chosen .entry)) (now (last .entry)) (now (cores .entry)) (now (others .entry)) (now (cores .exit)) (now (others .exit)) n ⌝ }
+{
+    let mut n = 0;
+    let mut r = 0;
+    while r < chosen.len() {
+        let i = chosen[r];
+        let k = last_core(last, i);
+        if is_free(cores, k) {
+            take_core(cores, k, i);
+        } else {
+            others[n] = i;
+            n += 1;
+        }
+        r += 1;
+    }
+    n
+}
+
+// Each of the others takes the lowest free core. No core before `k` is free any more, so the search never goes back.
+fn fill(others: &[u8], cores: &mut [u8])
+    requires { ⌜ (length (now others) ≤ count (eqb 0) (now cores)) × (count (eqb 0) (now others) ≡ 0) ⌝ }
+    ensures { λ _. ⌜ now (cores .exit) ≡ fillCores (now (others .entry)) (now (cores .entry)) ⌝ }
+{
+    let mut j = 0;
+    let mut k = 0;
+    while j < others.len() {
+        if cores[k] == 0 {
+            cores[k] = others[j];
+            j += 1;
+        }
+        k += 1;
+    }
+}
+
+// `chosen` has the chosen tasks, highest priority first; `last` has each task's last core. What stood in `cores` before is lost.
+pub fn place(chosen: &[u8], last: &[u8], cores: &mut [u8])
+    requires { ⌜ Placing (now chosen) (now last) (now cores) ⌝ }
+    ensures { λ _. ⌜ now (cores .exit) ≡ place (length (now (cores .entry))) (now (last .entry)) (now (chosen .entry)) ⌝ }
+{
+    let mut others = [0u8; 32];
+    let m = cores.len();
+    clear(cores);
+    let n = keep(chosen, last, cores, &mut others[..m]);
+    fill(&others[..n], cores);
+}
