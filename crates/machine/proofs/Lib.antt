@@ -1,0 +1,14 @@
+pub mod Arrays
+pub mod Viewing
+pub mod Ranking
+pub mod Padding
+pub mod Fitting
+pub mod Packing
+pub mod Passing
+pub mod Forming
+pub mod Starting
+pub mod Asking
+pub mod Releasing
+pub mod Leading
+pub mod Totalling
+pub mod Unique

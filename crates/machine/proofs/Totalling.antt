@@ -1,0 +1,156 @@
+-- The totals: the units dropped, summed along the tasks, and the frame.
+use Prim.Native.Nat.{ℕ, suc, _+_, _-_, _^_, _≤_, _<_, zero-le}
+use mathlib.Core.Path.{_≡_, refl, sym, ap, _∙_}
+use mathlib.Core.Bool.{true, false}
+use mathlib.Core.List.{List, [], _∷_, _++_, append-assoc, append-nil}
+use native.Mathlib.Nat.{mul-le-mul-right}
+use native.Mathlib.Omega.{arith}
+use borrow.Author.Tests.{lt-ltb, le-ltb}
+use borrow.Rule.Slice.PartMut.{putMid}
+use lib.ListN.{length, getD, take, drop, drop-of-length-le}
+use Rattle.laws.specs.Lists.{sum}
+use Rattle.laws.specs.Digits.{field}
+use Rattle.laws.proofs.Walks.{sum-split, sum-most}
+use Rattle.rules.specs.Limits.{tasksMax, clockMax}
+use Rattle.rules.specs.Rows as Rows
+use Rattle.rules.specs.Tables.{size, rowOf}
+use Rattle.rules.specs.Frames.{lineFeed, totals, fields, frame}
+use Rattle.rules.specs.Refusals.{Test}
+use Rattle.rules.specs.States as States
+use Rattle.rules.specs.Runs.{totalsLine}
+use Rattle.rules.specs.Answers.{lay, roomTest, writeTotals}
+use Rattle.rules.specs.declared.refusal.Refusal.the-variants.{NoRoom, BadState}
+use Rattle.reading_laws.proofs.Frames.{length-frame}
+use Rattle.reading_laws.proofs.Lays.{lay-lent}
+use Rattle.slot_laws.proofs.Lengths.{length-totalsLine}
+use Rattle.tables.specs.Writes.{made, wrote}
+use Rattle.tables.specs.declared.write.WriteAnswer.the-variants.{Written, Refused}
+use Rattle.machine.specs.Answers.{asked}
+use Rattle.slot_laws.proofs.Forms.{Kept, formed-kept, formed-clock}
+use Rattle.machine.specs.declared.state.State.{State}
+use Rattle.machine.specs.Full.{Full}
+use Rattle.machine.specs.Views.{tasks, units, view, formed}
+use Rattle.machine.proofs.Viewing.{length-viewed, getD-viewed, size-view}
+use Rattle.machine.proofs.Packing.{padded-few}
+use Rattle.machine.proofs.Asking.{formed-says, asked-ill, asked-well}
+use Rattle.machine.proofs.Releasing.{releasedMax, released-most}
+
+-- ---- the units dropped
+
+module _ (s : State) (full : Full s) (ok : formed s ≡ true) where
+  few : tasks s ≤ tasksMax
+  few = padded-few s (formed-says s ok .0)
+
+  kept : Kept (view s)
+  kept = formed-kept (view s) (formed-says s ok .1)
+
+  soon : view s .clock ≤ clockMax
+  soon = formed-clock (view s) (formed-says s ok .1)
+
+  long : length (view s .dropped) ≡ tasks s
+  unfolding view
+  long = length-viewed (λ x. x .0) (tasks s) (s .dropped) (omega (arith, full .dropped, few))
+
+  sizes : size (view s .table) ≡ tasks s
+  unfolding view
+  sizes = size-view (s .table) (full .rows) few
+
+  here : (i : ℕ) → i < tasks s → getD (view s .dropped) i 0 ≡ getD (s .dropped) i (units 0) .0
+  unfolding view
+  here i more = getD-viewed (λ x. x .0) (tasks s) (s .dropped) (omega (arith, full .dropped, few)) (units 0) i refl more
+
+  -- no task has dropped more than was released
+  dropped-most : (i : ℕ) → i < length (view s .dropped) → getD (view s .dropped) i 0 ≤ releasedMax
+  unfolding Rows.released Rows.releasesBefore Rows.demand
+  dropped-most i more =
+      let inside : suc i ≤ size (view s .table) = omega (arith, long, sizes) in
+      let row = kept .taken .row (suc i) (omega arith) inside in
+      let r : Rows.Row = rowOf (view s .table) (suc i) in
+      omega (arith, kept .task (suc i) (omega arith) inside .books, released-most (r .c) (r .t) (view s .clock) (omega (arith, row .within, row .high)) (row .high) soon)
+
+  -- so that all units dropped fit 64 bits
+  pub dropped-small : sum (view s .dropped) < 2 ^ 64
+  dropped-small = omega (arith, sum-most (view s .dropped) releasedMax dropped-most, mul-le-mul-right releasedMax few, long)
+
+-- after i tasks
+pub record Summed (s : State) (units i : ℕ) : Type 0 where
+  pub full : Full s
+  pub ok : formed s ≡ true
+  pub within : i ≤ tasks s
+  pub whole : units + sum (drop i (view s .dropped)) ≡ sum (view s .dropped)
+
+module _ (s : State) where
+  pub start : Full s → formed s ≡ true → Summed s 0 0
+  start full ok = record { full = full; ok = ok; within = zero-le; whole = omega arith }
+
+  module _ {sofar i : ℕ} (g : Summed s sofar i) where
+    module _ (more : i < tasks s) where
+      pub place : i < tasksMax
+      place = omega (arith, few s (g .full) (g .ok))
+
+      next : sofar + getD (s .dropped) i (units 0) .0 + sum (drop (i + 1) (view s .dropped)) ≡ sum (view s .dropped)
+      next =
+          omega (
+            arith,
+            g .whole,
+            sum-split (view s .dropped) i (omega (arith, long s (g .full) (g .ok))),
+            here s (g .full) (g .ok) i more,
+          )
+
+      -- the sum does not wrap
+      pub fits : sofar + getD (s .dropped) i (units 0) .0 < 2 ^ 64
+      fits = omega (arith, next, dropped-small s (g .full) (g .ok))
+
+      pub turn : Summed s (sofar + getD (s .dropped) i (units 0) .0) (i + 1)
+      turn = record { full = g .full; ok = g .ok; within = omega arith; whole = next }
+
+    pub ended : tasks s ≤ i → sofar ≡ sum (view s .dropped)
+    ended h =
+        let none : drop i (view s .dropped) ≡ [] = drop-of-length-le (view s .dropped) {i = i} (omega (arith, long s (g .full) (g .ok))) in
+        omega (arith, g .whole, ap sum none)
+
+-- ---- the frame
+
+pub totals-parts : (moves misses dropped : ℕ)
+    → frame totals (moves ∷ misses ∷ dropped ∷ []) ≡ field 2 0x14 ++ field 16 moves ++ field 16 misses ++ field 16 dropped ++ (lineFeed ∷ [])
+unfolding frame fields
+totals-parts moves misses dropped = simp (append-assoc, append-nil)
+
+pub length-totals : (moves misses dropped : ℕ) → length (frame totals (moves ∷ misses ∷ dropped ∷ [])) ≡ 51
+length-totals moves misses dropped = length-frame totals (moves ∷ misses ∷ dropped ∷ []) refl
+
+-- ---- the answer
+
+module _ (s : State) (out : List ℕ) (place : ℕ) where
+  -- the test of the room, after that of the state
+  abbrev tests : States.State → List Test
+  tests st = roomTest out place (length (totalsLine st)) ∷ []
+
+  -- the buffer with the line in it
+  abbrev lined : States.State → List ℕ
+  lined st = lay out place (totalsLine st)
+
+  -- the state is not well formed
+  pub totals-ill : formed s ≡ false → made (Refused BadState) out ≡ wrote 51 out (asked s (λ st. writeTotals st out place))
+  unfolding writeTotals wrote
+  totals-ill e = sym (ap (wrote 51 out) (asked-ill s tests lined e))
+
+  module _ (ok : formed s ≡ true) where
+    -- the line has no room
+    pub totals-short : length out < place + 51 → made (Refused NoRoom) out ≡ wrote 51 out (asked s (λ st. writeTotals st out place))
+    unfolding writeTotals wrote roomTest
+    totals-short h =
+        sym (ap (wrote 51 out) (asked-well s tests lined ok) ∙ rw (length-totalsLine (view s), lt-ltb (length out) (place + 51) h))
+
+    -- it has, and was written through the lent tail
+    pub totals-written : place + 51 ≤ length out → (dropped : ℕ) → dropped ≡ sum (view s .dropped) → (tail : List ℕ)
+        → tail ≡ frame totals (s .moves ∷ s .misses ∷ dropped ∷ []) ++ drop 51 (take (length out - place) (drop place out))
+        → made (Written 51) (putMid place (length out - place) out tail) ≡ wrote 51 out (asked s (λ st. writeTotals st out place))
+    unfolding writeTotals wrote roomTest
+    totals-written room dropped ed tail e =
+        let line : frame totals (s .moves ∷ s .misses ∷ dropped ∷ []) ≡ totalsLine (view s) = unfold totalsLine view in (rw ed) in
+        let laid : putMid place (length out - place) out tail ≡ lay out place (totalsLine (view s)) =
+        lay-lent out place 51 (totalsLine (view s)) tail (length-totalsLine (view s)) (omega arith) (rw (← line) e)
+        in
+        ap (made (Written 51)) laid
+        ∙ sym (ap (wrote 51 out) (asked-well s tests lined ok) ∙ rw (length-totalsLine (view s), le-ltb (length out) (place + 51) room))
