@@ -1,0 +1,11 @@
+pub mod Numbers
+pub mod Fields
+pub mod Round
+pub mod Loops
+pub mod Cells
+pub mod Packed
+pub mod Decoding
+pub mod Storing
+pub mod Back
+pub mod Unique
+pub mod Example

@@ -1,0 +1,251 @@
+-- A state's bytes laid into a buffer, field by field and record by record, each through the lent tail.
+use Prim.Native.Nat.{ℕ, _+_, _-_, _*_, _≤_, _<_, zero-le}
+use mathlib.Core.Path.{_≡_, refl, sym, ap, _∙_}
+use mathlib.Core.Bool.{true, false}
+use mathlib.Core.List.{List, [], _∷_, _++_, map, append-assoc, append-nil}
+use native.Mathlib.Numerals.{add-one}
+use native.Mathlib.Omega.{arith}
+use borrow.Rule.Slice.PartMut.{midOf, putMid}
+use borrow.Author.Tests.{lt-ltb, le-ltb}
+use lib.ListN.{length, getD, drop, length-append, length-take, length-drop}
+use Rattle.laws.specs.Lists.{sum, join, numbers}
+use Rattle.laws.proofs.Filling.{from-snoc}
+use Rattle.laws.proofs.Joins.{join-last}
+use Rattle.rules.specs.Limits.{tasksMax}
+use Rattle.rules.specs.Tables.{size}
+use Rattle.rules.specs.Refusals.{Test, Answer}
+use Rattle.rules.specs.States as States
+use Rattle.rules.specs.Answers.{lay, roomTest}
+use Rattle.rules.specs.declared.refusal.Refusal.the-variants.{NoRoom, BadState}
+use Rattle.tables.specs.Views as Tables
+use Rattle.tables.specs.Writes.{Wrote, made, wrote}
+use Rattle.tables.specs.declared.write.WriteAnswer.the-variants.{Written, Refused}
+use Rattle.reading_laws.proofs.Lays.{length-lay, lay-lent, laid-on, lay-front}
+use Rattle.machine.specs.Full.{Full}
+use Rattle.machine.specs.Views.{tasks, taskNumber, coreNumber, units, view, formed}
+use Rattle.machine.specs.declared.state.State.{State}
+use Rattle.machine.proofs.Viewing.{at-viewed, size-view, rowOf-view}
+use Rattle.machine.proofs.Packing.{padded-few}
+use Rattle.machine.proofs.Asking.{formed-says, asked-ill, asked-well}
+use Rattle.stored.specs.Layout.{bytesOf, written, fixedWidths, taskWidths, lengthOf, fixedOf, taskOf, recordOf, store}
+use Rattle.stored.specs.Answers.{Room, storeState, storedState}
+use Rattle.stored.proofs.Numbers.{length-bytesOf}
+use Rattle.stored.proofs.Fields.{length-written, length-records}
+use Rattle.stored.proofs.Round.{length-store}
+
+-- ---- fields, one right after the other
+
+-- one field more
+written-snoc : (ws vs : List ℕ) (w v : ℕ) → length vs ≡ length ws → written (ws ++ (w ∷ [])) (vs ++ (v ∷ [])) ≡ written ws vs ++ bytesOf w v
+unfolding written
+written-snoc [] [] w v e = append-nil (bytesOf w v)
+written-snoc [] (u ∷ vs) w v e = absurd (omega arith)
+written-snoc (x ∷ ws) [] w v e = absurd (omega arith)
+written-snoc (x ∷ ws) (u ∷ vs) w v e = rw (written-snoc ws vs w v (omega arith)) (sym (append-assoc (bytesOf x u) (written ws vs) (bytesOf w v)))
+
+-- so far these fields stand at the front of the lent part
+pub record Laid (out ws vs now : List ℕ) : Type 0 where
+  pub paired : length vs ≡ length ws
+  pub whole : now ≡ lay out 0 (written ws vs)
+
+module _ (out : List ℕ) where
+  pub first-field : (w v : ℕ) {now : List ℕ} → now ≡ bytesOf w v ++ drop w out → Laid out (w ∷ []) (v ∷ []) now
+  unfolding written
+  first-field w v e = record { paired = refl; whole = e ∙ rw (append-nil (bytesOf w v), lay-front out (bytesOf w v), length-bytesOf w v) }
+
+  module _ {ws vs now : List ℕ} (so-far : Laid out ws vs now) (end : ℕ) (ends : sum ws ≡ end) where
+    pub next-field : (w v : ℕ) {tail : List ℕ} → end + w ≤ length out → tail ≡ bytesOf w v ++ drop w (midOf end (length now - end) now)
+        → Laid out (ws ++ (w ∷ [])) (vs ++ (v ∷ [])) (putMid end (length now - end) now tail)
+    next-field w v {tail} room e =
+        record {
+          paired = length-append vs (v ∷ []) ∙ omega (arith, so-far .paired, length-append ws (w ∷ []));
+          whole =
+              laid-on out 0 (written ws vs) now (so-far .whole) end (omega (arith, length-written ws vs (so-far .paired))) w (bytesOf w v) tail (length-bytesOf w v) room e
+              ∙ ap (lay out 0) (sym (written-snoc ws vs w v (so-far .paired)));
+        }
+
+    pub all-fields : now ≡ written ws vs ++ drop end out
+    all-fields = so-far .whole ∙ lay-front out (written ws vs) ∙ ap (λ (k : ℕ). written ws vs ++ drop k out) (length-written ws vs (so-far .paired) ∙ ends)
+
+-- ---- the record of a task
+
+-- the numbers of the task at place i of the arrays
+abbrev pub entries : State → ℕ → List ℕ
+entries s i =
+    getD (s .table .rows) i Tables.zeroRow .c
+    ∷ getD (s .table .rows) i Tables.zeroRow .t
+    ∷ getD (s .ranks) i (taskNumber 0) .0
+    ∷ getD (s .last) i (coreNumber 0) .0
+    ∷ getD (s .left) i (units 0) .0
+    ∷ getD (s .done) i (units 0) .0
+    ∷ getD (s .dropped) i (units 0) .0
+    ∷ []
+
+task-entries : (s : State) → Full s → tasks s ≤ tasksMax → (i : ℕ) → i < tasks s → taskOf (view s) (i + 1) ≡ entries s i
+unfolding view
+task-entries s full few i more =
+    rw (
+      rowOf-view (s .table) (full .rows) few i more,
+      at-viewed (λ x. x .0) (tasks s) (s .ranks) (omega (arith, full .ranks)) (taskNumber 0) i refl more,
+      at-viewed (λ x. x .0) (tasks s) (s .last) (omega (arith, full .last)) (coreNumber 0) i refl more,
+      at-viewed (λ x. x .0) (tasks s) (s .left) (omega (arith, full .left)) (units 0) i refl more,
+      at-viewed (λ x. x .0) (tasks s) (s .done) (omega (arith, full .done)) (units 0) i refl more,
+      at-viewed (λ x. x .0) (tasks s) (s .dropped) (omega (arith, full .dropped)) (units 0) i refl more,
+    )
+
+-- its two halves, one right after the other
+pub halves-laid : (out : List ℕ) (c t rank last left done dropped : ℕ) {now tail : List ℕ} → 34 ≤ length out
+    → now ≡ written (4 ∷ 4 ∷ 1 ∷ 1 ∷ []) (c ∷ t ∷ rank ∷ last ∷ []) ++ drop 10 out
+    → tail ≡ written (8 ∷ 8 ∷ 8 ∷ []) (left ∷ done ∷ dropped ∷ []) ++ drop 24 (midOf 10 (length now - 10) now)
+    → putMid 10 (length now - 10) now tail ≡ written taskWidths (c ∷ t ∷ rank ∷ last ∷ left ∷ done ∷ dropped ∷ []) ++ drop 34 out
+unfolding written
+halves-laid out c t rank last left done dropped {now} {tail} room one two =
+    let first : List ℕ = written (4 ∷ 4 ∷ 1 ∷ 1 ∷ []) (c ∷ t ∷ rank ∷ last ∷ []) in
+    let second : List ℕ = written (8 ∷ 8 ∷ 8 ∷ []) (left ∷ done ∷ dropped ∷ []) in
+    let whole : List ℕ = written taskWidths (c ∷ t ∷ rank ∷ last ∷ left ∷ done ∷ dropped ∷ []) in
+    let long₁ : length first ≡ 10 = length-written (4 ∷ 4 ∷ 1 ∷ 1 ∷ []) (c ∷ t ∷ rank ∷ last ∷ []) refl in
+    let long₂ : length second ≡ 24 = length-written (8 ∷ 8 ∷ 8 ∷ []) (left ∷ done ∷ dropped ∷ []) refl in
+    let long : length whole ≡ 34 = length-written taskWidths (c ∷ t ∷ rank ∷ last ∷ left ∷ done ∷ dropped ∷ []) refl in
+    let laid : now ≡ lay out 0 first = one ∙ sym (lay-front out first ∙ ap (λ (k : ℕ). first ++ drop k out) long₁) in
+    let joined : first ++ second ≡ whole = simp (append-assoc, append-nil) in
+    laid-on out 0 first now laid 10 (omega (arith, long₁)) 24 second tail long₂ room two
+    ∙ ap (lay out 0) joined
+    ∙ lay-front out whole
+    ∙ ap (λ (k : ℕ). whole ++ drop k out) long
+
+-- ---- the records, one right after the other
+
+-- the records of the first i tasks stand at the front of the lent part
+pub record Recording (out₀ : List ℕ) (s : State) (out : List ℕ) (at i : ℕ) : Type 0 where
+  pub full : Full s
+  pub few : tasks s ≤ tasksMax
+  pub within : i ≤ tasks s
+  pub place : at ≡ 34 * i
+  pub room : 34 * tasks s ≤ length out₀
+  pub kept : length out ≡ length out₀
+  pub laid : out ≡ lay out₀ 0 (join (map (recordOf (view s)) (numbers i)))
+
+module _ (s : State) where
+  long : (i : ℕ) → length (recordOf (view s) i) ≡ 34
+  long i = length-written taskWidths (taskOf (view s) i) refl
+
+module _ (out₀ : List ℕ) (s : State) where
+  pub recording-starts : Full s → Room s (34 * tasks s) out₀ → Recording out₀ s out₀ 0 0
+  recording-starts full r =
+      record { full = full; few = r .few; within = zero-le; place = refl; room = r .room; kept = refl; laid = sym (lay-front out₀ []) }
+
+  module _ (out : List ℕ) (at i : ℕ) (w : Recording out₀ s out at i) where
+    -- there is room for one more
+    pub recording-room : i < tasks s → 34 ≤ length (midOf at (length out - at) out)
+    recording-room l =
+        omega (arith, length-take (length out - at) (drop at out), length-drop at out, w .room, w .place, w .kept)
+
+    pub recording-goes-on : i < tasks s → (tail : List ℕ) → tail ≡ written taskWidths (entries s i) ++ drop 34 (midOf at (length out - at) out)
+        → Recording out₀ s (putMid at (length out - at) out tail) (at + 34) (i + 1)
+    recording-goes-on l tail e =
+        let before : List ℕ = join (map (recordOf (view s)) (numbers i)) in
+        let next : List ℕ = recordOf (view s) (i + 1) in
+        let so-far : length before ≡ at = length-records (recordOf (view s)) 34 (long s) 1 i ∙ sym (w .place) in
+        let here : tail ≡ next ++ drop 34 (midOf at (length out - at) out) =
+        e ∙ ap (λ (vs : List ℕ). written taskWidths vs ++ drop 34 (midOf at (length out - at) out)) (sym (task-entries s (w .full) (w .few) i l))
+        in
+        let one-more : i + 1 ≡ 1 + i = omega arith in
+        let more : before ++ next ≡ join (map (recordOf (view s)) (numbers (i + 1))) =
+        sym (join-last (map (recordOf (view s)) (numbers i)) next)
+        ∙ ap join (ap (λ (k : ℕ). map (recordOf (view s)) (numbers i) ++ (recordOf (view s) k ∷ [])) one-more ∙ sym (from-snoc (recordOf (view s)) 1 i) ∙ ap (λ (k : ℕ). map (recordOf (view s)) (numbers k)) (sym (add-one i)))
+        in
+        let laid : putMid at (length out - at) out tail ≡ lay out₀ 0 (before ++ next) =
+        laid-on out₀ 0 before out (w .laid) at (omega arith) 34 next tail (long s (i + 1)) (omega (arith, w .room, w .place)) here
+        in
+        record {
+          full = w .full;
+          few = w .few;
+          within = omega arith;
+          place = omega (arith, w .place);
+          room = w .room;
+          kept = ap length laid ∙ length-lay out₀ 0 (before ++ next) (omega (arith, length-append before next, long s (i + 1), w .room, w .place));
+          laid = laid ∙ ap (lay out₀ 0) more;
+        }
+
+    pub recording-ends : tasks s ≤ i → out ≡ join (map (recordOf (view s)) (numbers (tasks s))) ++ drop (34 * tasks s) out₀
+    recording-ends h =
+        let e : i ≡ tasks s = omega (arith, w .within) in
+        let all-of : List ℕ = join (map (recordOf (view s)) (numbers (tasks s))) in
+        w .laid
+        ∙ ap (λ (k : ℕ). lay out₀ 0 (join (map (recordOf (view s)) (numbers k)))) e
+        ∙ lay-front out₀ all-of
+        ∙ ap (λ (k : ℕ). all-of ++ drop k out₀) (length-records (recordOf (view s)) 34 (long s) 1 (tasks s))
+
+-- ---- the whole state
+
+module _ (s : State) (full : Full s) (few : tasks s ≤ tasksMax) where
+  sizes : size (view s .table) ≡ tasks s
+  unfolding view
+  sizes = size-view (s .table) (full .rows) few
+
+  length-stored : length (store (view s)) ≡ lengthOf (tasks s)
+  length-stored = length-store (view s) ∙ ap lengthOf sizes
+
+  fixed-numbers : fixedOf (view s) ≡ s .table .m .0 ∷ s .table .n .0 ∷ s .clock .0 ∷ s .moves ∷ s .misses ∷ []
+  unfolding view Tables.view
+  fixed-numbers = ap (λ (n : ℕ). s .table .m .0 ∷ n ∷ s .clock .0 ∷ s .moves ∷ s .misses ∷ []) sizes
+
+  -- the fixed part, and the records right after it
+  pub state-written : (out out₁ tail : List ℕ) → lengthOf (tasks s) ≤ length out
+      → out₁ ≡ written fixedWidths (s .table .m .0 ∷ s .table .n .0 ∷ s .clock .0 ∷ s .moves ∷ s .misses ∷ []) ++ drop 22 out
+      → tail ≡ join (map (recordOf (view s)) (numbers (tasks s))) ++ drop (34 * tasks s) (midOf 22 (length out₁ - 22) out₁)
+      → putMid 22 (length out₁ - 22) out₁ tail ≡ store (view s) ++ drop (lengthOf (tasks s)) out
+  unfolding store
+  state-written out out₁ tail room fixed-is rest-is =
+      let n : ℕ = tasks s in
+      let fixed : List ℕ = written fixedWidths (fixedOf (view s)) in
+      let rest : List ℕ = join (map (recordOf (view s)) (numbers n)) in
+      let long₁ : length fixed ≡ 22 = length-written fixedWidths (fixedOf (view s)) refl in
+      let laid₁ : out₁ ≡ lay out 0 fixed =
+      fixed-is ∙ ap (λ (vs : List ℕ). written fixedWidths vs ++ drop 22 out) (sym fixed-numbers) ∙ sym (lay-front out fixed ∙ rw long₁)
+      in
+      let laid₂ : putMid 22 (length out₁ - 22) out₁ tail ≡ lay out 0 (fixed ++ rest) =
+      laid-on out 0 fixed out₁ laid₁ 22 (omega arith) (34 * n) rest tail (length-records (recordOf (view s)) 34 (long s) 1 n) (omega arith) rest-is
+      in
+      let whole : fixed ++ rest ≡ store (view s) = ap (λ (k : ℕ). fixed ++ join (map (recordOf (view s)) (numbers k))) (sym sizes) in
+      laid₂ ∙ ap (lay out 0) whole ∙ lay-front out (store (view s)) ∙ ap (λ (k : ℕ). store (view s) ++ drop k out) length-stored
+
+-- ---- the answer
+
+module _ (s : State) (out : List ℕ) (place : ℕ) where
+  -- the test for room, after that of the state
+  abbrev tests : States.State → List Test
+  tests st = roomTest out place (length (store st)) ∷ []
+
+  -- the buffer with the bytes in it
+  abbrev filled : States.State → List ℕ
+  filled st = lay out place (store st)
+
+  abbrev answer : Answer (List ℕ) → Wrote
+  answer a = wrote (length (store (view s))) out a
+
+  -- the state is not well formed
+  pub store-ill : formed s ≡ false → made (Refused BadState) out ≡ storedState s out place
+  unfolding storedState storeState wrote
+  store-ill e = sym (ap answer (asked-ill s tests filled e))
+
+  module _ (full : Full s) (ok : formed s ≡ true) where
+    few : tasks s ≤ tasksMax
+    few = padded-few s (formed-says s ok .0)
+
+    -- its bytes have no room
+    pub store-short : length out < place + lengthOf (tasks s) → made (Refused NoRoom) out ≡ storedState s out place
+    unfolding storedState storeState wrote roomTest
+    store-short h = sym (ap answer (asked-well s tests filled ok) ∙ rw (length-stored s full few, lt-ltb (length out) (place + lengthOf (tasks s)) h))
+
+    -- they have, and were written through the lent tail
+    pub store-written : (tail : List ℕ) → place + lengthOf (tasks s) ≤ length out
+        → tail ≡ store (view s) ++ drop (lengthOf (tasks s)) (midOf place (length out - place) out)
+        → made (Written (lengthOf (tasks s))) (putMid place (length out - place) out tail) ≡ storedState s out place
+    unfolding storedState storeState wrote roomTest
+    store-written tail room e =
+        let laid : putMid place (length out - place) out tail ≡ lay out place (store (view s)) =
+        lay-lent out place (lengthOf (tasks s)) (store (view s)) tail (length-stored s full few) (omega arith) e
+        in
+        ap (made (Written (lengthOf (tasks s)))) laid
+        ∙ sym (ap answer (asked-well s tests filled ok) ∙ rw (length-stored s full few, le-ltb (length out) (place + lengthOf (tasks s)) room))

@@ -1,0 +1,66 @@
+-- `stored::store::write_units` meets its contract: its fields are laid one right after the other.
+use mathlib.Core.Path.{refl}
+use native.Mathlib.Omega.{arith}
+use denote.Ref.{now}
+use Rattle.stored.proofs.Storing.{first-field, next-field, all-fields}
+use borrow.Author.Needs.{needs}
+use Rattle.stored.proofs.store.write_units.Statement.{statement}
+use Rattle.stored.proofs.store.write_units.Tie as tie
+
+write-bytes-requires : tie.Need-write-bytes-requires
+write-bytes-requires c κs = search needs
+
+sub-write-bytes : tie.Need-sub-write-bytes
+sub-write-bytes c = search needs
+
+part-write-bytes-start : tie.Need-part-write-bytes-start
+part-write-bytes-start c = search needs
+
+part-write-bytes-end : tie.Need-part-write-bytes-end
+part-write-bytes-end c = search needs
+
+write-bytes-requires-2 : tie.Need-write-bytes-requires-2
+write-bytes-requires-2 c κs = search needs
+
+sub-write-bytes-2 : tie.Need-sub-write-bytes-2
+sub-write-bytes-2 c = search needs
+
+part-write-bytes-start-2 : tie.Need-part-write-bytes-start-2
+part-write-bytes-start-2 c = search needs
+
+part-write-bytes-end-2 : tie.Need-part-write-bytes-end-2
+part-write-bytes-end-2 c = search needs
+
+write-bytes-requires-3 : tie.Need-write-bytes-requires-3
+write-bytes-requires-3 c κs = search needs
+
+same-length : tie.Need-same-length
+same-length c = search needs
+
+returns : tie.Need-returns
+returns c =
+    let third = c .before .before in
+    let second = third .before .before .before .before in
+    let begun = second .before .before .before .before in
+    let start = begun .before .before .before in
+    let out = now (start .args .out) in
+    let one = first-field out 8 _ (begun .write-bytes .ensures) in
+    let two = next-field out one 8 refl 8 _ (omega (arith, start .pre)) (second .write-bytes2 .ensures) in
+    let three = next-field out two 16 refl 8 _ (omega (arith, start .pre)) (third .write-bytes3 .ensures) in
+    all-fields out three 24 refl
+
+pub write-units-spec : {M : Type 1} → statement M
+write-units-spec =
+    tie.close
+    (tie.spec
+    write-bytes-requires
+    sub-write-bytes
+    part-write-bytes-start
+    part-write-bytes-end
+    write-bytes-requires-2
+    sub-write-bytes-2
+    part-write-bytes-start-2
+    part-write-bytes-end-2
+    write-bytes-requires-3
+    same-length
+    returns)
