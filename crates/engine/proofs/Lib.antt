@@ -6,3 +6,4 @@ pub mod Seating
 pub mod Stepping
 pub mod Steps
 pub mod Working
+pub mod Unique

@@ -1,3 +1,4 @@
 pub mod PairLoop
 pub mod SlotFrame
 pub mod RefusalFrame
+pub mod Unique
