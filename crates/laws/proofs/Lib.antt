@@ -20,4 +20,3 @@ pub mod Periods
 pub mod Growing
 pub mod Walks
 pub mod Fronts
-pub mod Copies

@@ -1,8 +1,7 @@
 -- The walks along the tasks that take a state apart and put it together.
-use Prim.Native.Nat.{ℕ, zero, suc, _+_, _-_, _^_, _%_, _≤_, _<_, zero-le}
+use Prim.Native.Nat.{ℕ, _+_, _-_, _^_, _%_, _≤_, _<_, zero-le}
 use mathlib.Core.Path.{_≡_, refl, sym, ap, _∙_}
 use mathlib.Core.List.{List, _∷_, _++_, map, map-map, map-id}
-use native.Mathlib.Nat.{sub-zero, zero-sub, suc-sub-suc}
 use native.Mathlib.Omega.{arith}
 use lib.Dec.{T}
 use lib.ListN.{length, getD, take, drop, set, replicate, length-map}
@@ -10,7 +9,8 @@ use lib.Seq.{length-take-le}
 use Rattle.laws.specs.Lists.{at}
 use Rattle.laws.proofs.Tests.{of-T}
 use Rattle.laws.proofs.Filters.{map-from-getD}
-use Rattle.laws.proofs.Copies.{Copying, copy-start, copy-turn}
+use Rattle.laws.proofs.Tails.{drop-replicate}
+use Rattle.laws.proofs.Copying.{copied, copied-turn}
 use Rattle.rules.specs.Limits.{tasksMax}
 use Rattle.rules.specs.Rows as Rules
 use Rattle.rules.specs.Tables as RuleTables
@@ -32,11 +32,21 @@ use Rattle.runs.specs.Parts.{plain, partsOf, joined}
 
 -- ---- arrays whose first entries were set
 
-drop-replicate : {A : Type 0} (n k : ℕ) (x : A) → drop n (replicate k x) ≡ replicate (k - n) x
-drop-replicate zero k x = rw sub-zero
-drop-replicate (suc n) zero x = rw zero-sub
-drop-replicate (suc n) (suc k) x = rw suc-sub-suc (drop-replicate n k x)
+-- after i steps of a walk along an array that puts f of each entry into another
+pub record Copy {A B : Type 0} (f : A → B) (xs : List A) (before cur : List B) (i : ℕ) : Type 0 where
+  pub long : length xs ≡ tasksMax
+  pub room : length before ≡ tasksMax
+  pub same : cur ≡ copied f xs before i
 
+module _ {A B : Type 0} (f : A → B) {xs : List A} {before : List B} where
+  copy-start : length xs ≡ tasksMax → length before ≡ tasksMax → Copy f xs before before 0
+  copy-start h k = record { long = h; room = k; same = refl }
+
+  copy-turn : {cur : List B} {i : ℕ} → Copy f xs before cur i → (d : A) (e : B) → i < tasksMax → Copy f xs before (set cur i (f (getD xs i d))) (i + 1)
+  copy-turn {i = i} g d e more =
+      record { long = g .long; room = g .room; same = copied-turn f d e xs before i (omega (arith, g .long)) (omega (arith, g .room)) (g .same) refl }
+
+-- what stands past the entries that were set
 module _ {A : Type 0} (make : ℕ → A) where
   packed-set : (n : ℕ) (l : List ℕ) → length l ≡ n → map make l ++ drop n (replicate tasksMax (make 0)) ≡ packed make l
   unfolding packed
@@ -86,14 +96,14 @@ pub record Parting (s : State) (c t ranks phase left last done dropped : List �
   pub full : Full s
   pub few : tasks s ≤ tasksMax
   pub within : i ≤ tasks s
-  pub cs : Copying (λ (r : Row). r .c) tasksMax (s .table .rows) zeros c i
-  pub ts : Copying (λ (r : Row). r .t) tasksMax (s .table .rows) zeros t i
-  pub ranked : Copying (λ (x : TaskNumber). x .0) tasksMax (s .ranks) zeros ranks i
-  pub phases : Copying (λ (r : Row). s .clock .0 % r .t) tasksMax (s .table .rows) zeros phase i
-  pub lefts : Copying (λ (x : Units). x .0) tasksMax (s .left) zeros left i
-  pub lasts : Copying (λ (x : CoreNumber). x .0) tasksMax (s .last) zeros last i
-  pub dones : Copying (λ (x : Units). x .0) tasksMax (s .done) zeros done i
-  pub drops : Copying (λ (x : Units). x .0) tasksMax (s .dropped) zeros dropped i
+  pub cs : Copy (λ (r : Row). r .c) (s .table .rows) zeros c i
+  pub ts : Copy (λ (r : Row). r .t) (s .table .rows) zeros t i
+  pub ranked : Copy (λ (x : TaskNumber). x .0) (s .ranks) zeros ranks i
+  pub phases : Copy (λ (r : Row). s .clock .0 % r .t) (s .table .rows) zeros phase i
+  pub lefts : Copy (λ (x : Units). x .0) (s .left) zeros left i
+  pub lasts : Copy (λ (x : CoreNumber). x .0) (s .last) zeros last i
+  pub dones : Copy (λ (x : Units). x .0) (s .done) zeros done i
+  pub drops : Copy (λ (x : Units). x .0) (s .dropped) zeros dropped i
 
 pub start : (s : State) → T (formed s) → Full s → Parting s zeros zeros zeros zeros zeros zeros zeros zeros 0
 start s f full =
@@ -136,7 +146,7 @@ module _ {s : State} {c t ranks phase left last done dropped : List ℕ} {i : �
     at-end : i ≡ tasks s
     at-end = omega (arith, g .within)
 
-    column : {A : Type 0} {number : A → ℕ} {a : List A} {now : List ℕ} → Copying number tasksMax a zeros now i → (l : List ℕ) → map number (take (tasks s) a) ≡ l → now ≡ plain l
+    column : {A : Type 0} {number : A → ℕ} {a : List A} {now : List ℕ} → Copy number a zeros now i → (l : List ℕ) → map number (take (tasks s) a) ≡ l → now ≡ plain l
     column {number = number} {a} w l e =
         let size : length (map number (take (tasks s) a)) ≡ tasks s = length-map (take (tasks s) a) number ∙ length-take-le (tasks s) a (omega (arith, w .long, g .few)) in
         w .same
@@ -176,10 +186,10 @@ noCores = replicate tasksMax (coreNumber 0)
 pub record Joining (n : ℕ) (left last done dropped : List ℕ) (lefts : List Units) (lasts : List CoreNumber) (dones drops : List Units) (i : ℕ) : Type 0 where
   pub few : n ≤ tasksMax
   pub within : i ≤ n
-  pub left-is : Copying units tasksMax left noUnits lefts i
-  pub last-is : Copying coreNumber tasksMax last noCores lasts i
-  pub done-is : Copying units tasksMax done noUnits dones i
-  pub dropped-is : Copying units tasksMax dropped noUnits drops i
+  pub left-is : Copy units left noUnits lefts i
+  pub last-is : Copy coreNumber last noCores lasts i
+  pub done-is : Copy units done noUnits dones i
+  pub dropped-is : Copy units dropped noUnits drops i
 
 module _ {n : ℕ} {left last done dropped : List ℕ} where
   pub join-start : n ≤ tasksMax → length left ≡ tasksMax → length last ≡ tasksMax → length done ≡ tasksMax → length dropped ≡ tasksMax
@@ -210,7 +220,7 @@ module _ {n : ℕ} {left last done dropped : List ℕ} where
         }
 
     module _ (h : n ≤ i) where
-      made : {A : Type 0} (make : ℕ → A) {l : List ℕ} {now : List A} → Copying make tasksMax l (replicate tasksMax (make 0)) now i → now ≡ packed make (take n l)
+      made : {A : Type 0} (make : ℕ → A) {l : List ℕ} {now : List A} → Copy make l (replicate tasksMax (make 0)) now i → now ≡ packed make (take n l)
       made {A} make {l} w =
           let end : i ≡ n = omega (arith, g .within) in
           w .same

@@ -23,9 +23,10 @@ use Rattle.machine.specs.Views.{tasks, taskNumber, coreNumber, units, packed, v
 use Rattle.machine.specs.declared.state.State.{State}
 use Rattle.machine.proofs.Viewing.{length-viewed, size-view}
 use Rattle.machine.proofs.Packing.{pack-view}
+use Rattle.verdicts.specs.Columns.{rowsOf, tableOf}
 use Rattle.runs.specs.declared.parts.Parts.{Parts}
 use Rattle.runs.specs.Parts.{plain, partsOf, joined}
-use Rattle.runs.specs.Slots.{rowsOf, tableOf, stateOf, frameLength, Runnable, RanSlots}
+use Rattle.runs.specs.Slots.{stateOf, frameLength, Runnable, RanSlots}
 use Rattle.runs.specs.Answers.{Open, RunFormed}
 use Rattle.runs.proofs.Parting.{padded-of, formed-of, few-tasks}
 

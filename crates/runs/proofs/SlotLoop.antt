@@ -22,7 +22,8 @@ use Rattle.reading_laws.proofs.Lays.{length-lay, lay-front, laid-on}
 use Rattle.frames.specs.Slots.{shownAs}
 use Rattle.engine.specs.Step.{Stepped, stepped, stepOn, Ready, unitsOf, periodsOf, phasesIn, stepFrom, listsOf}
 use Rattle.engine.proofs.Steps.{ready, step-slot}
-use Rattle.runs.specs.Slots.{rowsOf, tableOf, stateOf, frameLength, Runnable, coresAfter, RanSlots}
+use Rattle.verdicts.specs.Columns.{rowsOf, tableOf}
+use Rattle.runs.specs.Slots.{stateOf, frameLength, Runnable, coresAfter, RanSlots}
 
 -- ---- the columns of a table
 

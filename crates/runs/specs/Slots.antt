@@ -1,26 +1,16 @@
 -- A run on lists of plain numbers, one entry a task: the state that they say, and what a run asks and leaves.
 use Prim.Native.Nat.{ℕ, zero, suc, _+_, _*_, _≤_}
 use mathlib.Core.Path.{_≡_}
-use mathlib.Core.List.{List, [], _∷_, _++_}
+use mathlib.Core.List.{List, _++_}
 use lib.Dec.{T}
 use lib.ListN.{length, drop}
 use Rattle.rules.specs.Limits.{clockMax}
-use Rattle.rules.specs.Rows.{Row}
-use Rattle.rules.specs.Tables.{Table}
 use Rattle.rules.specs.States.{State}
 use Rattle.rules.specs.Forms.{wellFormed}
 use Rattle.rules.specs.Slots.{slot}
 use Rattle.rules.specs.Runs.{after, slotLines}
+use Rattle.verdicts.specs.Columns.{tableOf}
 use Rattle.engine.specs.Step.{phasesIn}
-
--- the rows of two columns, each task's C and its T
-unfoldable pub rowsOf : List ℕ → List ℕ → List Row
-rowsOf [] ts = []
-rowsOf (c ∷ cs) [] = []
-rowsOf (c ∷ cs) (t ∷ ts) = record { c = c; t = t } ∷ rowsOf cs ts
-
-abbrev pub tableOf : ℕ → List ℕ → List ℕ → Table
-tableOf m c t = record { m = m; rows = rowsOf c t }
 
 -- the state that the lists say
 abbrev pub stateOf : ℕ → ℕ → List ℕ → List ℕ → List ℕ → List ℕ → List ℕ → List ℕ → List ℕ → ℕ → ℕ → State

@@ -1,0 +1,1 @@
+// What the verdict "admitted" promises of what the public functions return: laws alone, by their contracts.
