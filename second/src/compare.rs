@@ -1,4 +1,4 @@
-//! The comparison: inputs in groups, each answered by the subject and by this
+//! The comparison: groups of questions, each asked of the subject and of this
 //! program, and the first difference of each group shown.
 
 use std::sync::Mutex;
@@ -6,20 +6,7 @@ use std::sync::atomic::{AtomicU64, Ordering::Relaxed};
 use std::thread;
 use std::time::{Duration, Instant};
 
-use crate::cases::{self, CASES};
-use crate::program::{self, MAX_INPUT};
-use crate::random::{self, Random};
-use crate::subject::{Program, Subject};
-use crate::table::{self, MAX_TASKS, Row};
-
-pub const DEFAULT_SEED: u64 = 1;
-pub const DEFAULT_TABLES: u64 = 20_000;
-
-// Streams of random numbers, one for each use.
-const TABLES: u64 = 0;
-const DAMAGED: u64 = 1;
-const PIECES: u64 = 2;
-const CUTS: u64 = 3;
+use crate::cases;
 
 /// What a comparison came to.
 #[derive(Default)]
@@ -34,8 +21,29 @@ pub struct Comparison {
     pub tally: Tally,
 }
 
-type Ask<'a> = &'a (dyn Fn(&[u8]) -> Result<Vec<u8>, String> + Sync);
-type Inputs<'a> = &'a (dyn Fn(u64) -> Vec<u8> + Sync);
+/// What one number of a group came to: what passed, what failed, and the first difference.
+#[derive(Default)]
+pub struct Found {
+    tally: Tally,
+    first: Option<String>,
+}
+
+impl Found {
+    /// Answers in order, each with what differs, or none.
+    pub fn all(differences: impl IntoIterator<Item = Option<String>>) -> Found {
+        let mut found = Found::default();
+        for difference in differences {
+            match difference {
+                None => found.tally.passed += 1,
+                Some(shown) => {
+                    found.tally.failed += 1;
+                    found.first.get_or_insert(shown);
+                }
+            }
+        }
+        found
+    }
+}
 
 impl Comparison {
     pub fn new(seed: u64, tables: u64) -> Comparison {
@@ -56,81 +64,10 @@ impl Comparison {
         self.tally.failed += failed.len() as u64;
     }
 
-    /// Everything that concerns a program run by a process.
-    pub fn program(&mut self, program: &Program) {
-        self.texts(program);
-        let seed = self.seed;
-        let pieces = |input: &[u8]| {
-            let mut random = Random::new(seed, CUTS, input.len() as u64);
-            let (a, b) = (random.below(input.len() + 1), random.below(input.len() + 1));
-            program.fed(&[
-                &input[..a.min(b)],
-                &input[a.min(b)..a.max(b)],
-                &input[a.max(b)..],
-            ])
-        };
-        self.group(
-            "inputs in pieces",
-            200,
-            &|i| random::file(&mut Random::new(seed, PIECES, i)),
-            &pieces,
-        );
-    }
-
-    /// Everything that any subject with a text must agree on.
-    pub fn texts(&mut self, subject: &dyn Subject) {
-        let seed = self.seed;
-        let ask = |input: &[u8]| subject.text(input);
-        self.group(
-            "worked cases",
-            CASES.len() as u64,
-            &|i| CASES[i as usize].file(),
-            &ask,
-        );
-        let inputs = |i| random::file(&mut Random::new(seed, TABLES, i));
-        self.group("random tables", self.tables, &inputs, &ask);
-        let inputs = |i| random::damaged(&mut Random::new(seed, DAMAGED, i));
-        self.group("damaged files", self.tables / 4, &inputs, &ask);
-
-        let long = long_inputs();
-        self.group(
-            "long inputs",
-            long.len() as u64,
-            &|i| long[i as usize].clone(),
-            &ask,
-        );
-
-        for name in SAMPLES {
-            let file = case_file(name);
-            let len = file.len() as u64;
-            let inputs = |i| file[..i as usize].to_vec();
-            self.group(&format!("truncations of case {name}"), len, &inputs, &ask);
-            let inputs = |i| changed(&file, i / 255, (i % 255) as u8 + 1);
-            self.group(
-                &format!("one-byte changes of case {name}"),
-                255 * len,
-                &inputs,
-                &ask,
-            );
-        }
-        // The longest file: every byte still changes, to the neighbours and relatives of a digit.
-        let file = longest_file();
-        let len = file.len() as u64;
-        let inputs = |i| file[..i as usize].to_vec();
-        self.group("truncations of the longest file", len, &inputs, &ask);
-        const FLIPS: [u8; 5] = [0x01, 0x08, 0x20, 0x3a, 0x80];
-        let inputs = |i| changed(&file, i / 5, FLIPS[i as usize % 5]);
-        self.group(
-            "one-byte changes of the longest file",
-            5 * len,
-            &inputs,
-            &ask,
-        );
-    }
-
-    fn group(&mut self, name: &str, count: u64, inputs: Inputs, ask: Ask) {
+    /// Checks the numbers below `count` on all processors and shows the first that differs.
+    pub fn group(&mut self, name: &str, count: u64, check: &(dyn Fn(u64) -> Found + Sync)) {
         let next = AtomicU64::new(0);
-        let failed = AtomicU64::new(0);
+        let (passed, failed) = (AtomicU64::new(0), AtomicU64::new(0));
         let first: Mutex<Option<(u64, String)>> = Mutex::new(None);
         let spoken = Mutex::new(Instant::now());
         let work = || {
@@ -145,11 +82,12 @@ impl Comparison {
                     eprintln!("{name}: {i} of {count}");
                     *spoken = Instant::now();
                 }
-                let input = inputs(i);
-                let Some(shown) = difference(&input, &program::text(&input), ask(&input)) else {
+                let found = check(i);
+                passed.fetch_add(found.tally.passed, Relaxed);
+                failed.fetch_add(found.tally.failed, Relaxed);
+                let Some(shown) = found.first else {
                     continue;
                 };
-                failed.fetch_add(1, Relaxed);
                 let mut first = first.lock().unwrap();
                 // Threads finish out of order; the lowest number is the same in every run.
                 if first.as_ref().is_none_or(|&(number, _)| i < number) {
@@ -162,146 +100,18 @@ impl Comparison {
                 scope.spawn(work);
             }
         });
-        let failed = failed.into_inner();
+        let (passed, failed) = (passed.into_inner(), failed.into_inner());
         if let Some((number, shown)) = first.into_inner().unwrap() {
             println!(
-                "{name}: {failed} of {count} differ; the first is number {number} (seed {})",
+                "{name}: {failed} of {} differ; the first is number {number} (seed {})",
+                passed + failed,
                 self.seed
             );
             print!("{shown}");
+        } else {
+            println!("{name}: {passed} agree");
         }
-        self.tally.passed += count - failed;
+        self.tally.passed += passed;
         self.tally.failed += failed;
-    }
-}
-
-/// Small files, of which every one-byte change is tried.
-const SAMPLES: [&str; 3] = ["J", "L", "M"];
-
-fn case_file(name: &str) -> Vec<u8> {
-    let case = CASES.iter().find(|case| case.name == name);
-    case.expect("the case is in the list").file()
-}
-
-/// 64 rows, so that every line number occurs and the file has its full 711 bytes.
-fn longest_file() -> Vec<u8> {
-    let rows: Vec<Row> = (0..MAX_TASKS as u32)
-        .map(|i| Row {
-            c: 1 + i % 7,
-            t: [8, 12, 20, 24, 60, 120][i as usize % 6],
-        })
-        .collect();
-    table::file(32, &rows)
-}
-
-fn changed(file: &[u8], at: u64, flip: u8) -> Vec<u8> {
-    let mut file = file.to_vec();
-    file[at as usize] ^= flip;
-    file
-}
-
-/// Inputs around and above the most that is read.
-fn long_inputs() -> Vec<Vec<u8>> {
-    let longest = longest_file();
-    let m = case_file("M");
-    let starts: [&[u8]; 6] = [b"", b"01", b"010203", b"010203\n", &m, &longest];
-    let fillers: [&[u8]; 5] = [b"0", b"\n", b"0200010002\n", &[0xff], &m];
-    let mut inputs = Vec::new();
-    for start in starts {
-        for filler in fillers {
-            for len in [
-                712,
-                MAX_INPUT - 1,
-                MAX_INPUT,
-                MAX_INPUT + 1,
-                2 * MAX_INPUT,
-                60_000,
-            ] {
-                let fill = filler.iter().copied().cycle().take(len - start.len());
-                inputs.push(start.iter().copied().chain(fill).collect());
-            }
-        }
-    }
-    inputs
-}
-
-/// What differs, with the input that shows it; nothing if the answer is the expected one.
-fn difference(input: &[u8], expected: &[u8], got: Result<Vec<u8>, String>) -> Option<String> {
-    let told = match got {
-        Ok(got) if got == expected => return None,
-        Ok(got) => first_line(expected, &got),
-        Err(why) => format!("no answer: {why}"),
-    };
-    let hex: String = input.iter().map(|byte| format!("{byte:02x}")).collect();
-    Some(format!(
-        "  input of {} bytes: \"{}\"\n  input in hexadecimal: {hex}\n  {told}\n",
-        input.len(),
-        input.escape_ascii(),
-    ))
-}
-
-fn first_line(expected: &[u8], got: &[u8]) -> String {
-    let tell = |line: Option<&[u8]>| match line {
-        Some(line) => format!("\"{}\"", line.escape_ascii()),
-        None => "no such line".to_string(),
-    };
-    let mut lines = expected.split_inclusive(|&byte| byte == b'\n');
-    let mut others = got.split_inclusive(|&byte| byte == b'\n');
-    let mut number = 1;
-    loop {
-        let (line, other) = (lines.next(), others.next());
-        if line != other {
-            return format!(
-                "line {number}: expected {}, got {}",
-                tell(line),
-                tell(other)
-            );
-        }
-        number += 1;
-    }
-}
-
-#[cfg(test)]
-mod tests {
-    use super::*;
-
-    /// Answers rightly but for one change of the text.
-    struct Altered(fn(&mut Vec<u8>));
-
-    impl Subject for Altered {
-        fn text(&self, input: &[u8]) -> Result<Vec<u8>, String> {
-            let mut text = program::text(input);
-            self.0(&mut text);
-            Ok(text)
-        }
-    }
-
-    fn failures(alter: fn(&mut Vec<u8>)) -> u64 {
-        let subject = Altered(alter);
-        let ask = |input: &[u8]| subject.text(input);
-        let mut comparison = Comparison::new(7, 0);
-        let inputs = |i| random::file(&mut Random::new(7, TABLES, i));
-        comparison.group("tables", 100, &inputs, &ask);
-        let inputs = |i| random::damaged(&mut Random::new(7, DAMAGED, i));
-        comparison.group("damaged files", 100, &inputs, &ask);
-        assert_eq!(comparison.tally.passed + comparison.tally.failed, 200);
-        comparison.tally.failed
-    }
-
-    #[test]
-    fn only_the_right_answer_passes() {
-        assert_eq!(failures(|_| ()), 0);
-        assert_eq!(failures(|text| text.push(b'\n')), 200);
-        assert_eq!(failures(|text| text.truncate(text.len() - 1)), 200);
-        assert!(
-            failures(|text| if text.starts_with(b"1f06") {
-                text[7] ^= 1
-            }) > 0
-        );
-        assert!(
-            failures(|text| if text.starts_with(b"1101") {
-                text[3] = b'0'
-            }) > 0
-        );
     }
 }

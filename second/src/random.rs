@@ -26,7 +26,7 @@ impl Random {
         )
     }
 
-    fn next(&mut self) -> u64 {
+    pub fn next(&mut self) -> u64 {
         self.0 = self.0.wrapping_add(GOLDEN);
         mix(self.0)
     }
@@ -40,8 +40,13 @@ impl Random {
         low + self.below((high - low) as usize + 1) as u32
     }
 
+    /// A number from 0 to `most`.
+    pub fn up_to(&mut self, most: u64) -> u64 {
+        self.next() % most.saturating_add(1)
+    }
+
     /// True once in `of` draws.
-    fn chance(&mut self, of: usize) -> bool {
+    pub fn chance(&mut self, of: usize) -> bool {
         self.below(of) == 0
     }
 
@@ -64,7 +69,8 @@ pub fn file(random: &mut Random) -> Vec<u8> {
 
 type Draft = (u32, Vec<Row>);
 
-fn rows(random: &mut Random) -> Draft {
+/// The cores and rows of a random table; most are in bounds.
+pub fn rows(random: &mut Random) -> Draft {
     const KINDS: &[fn(&mut Random) -> Draft] = &[
         small,
         smooth,
@@ -394,6 +400,33 @@ fn out_of_bounds(random: &mut Random) -> Draft {
                 }
             }
         }
+    }
+    (m, rows)
+}
+
+/// A list of rows, most with a number next to a bound or far beyond what a file can hold.
+pub fn list(random: &mut Random) -> (u32, Vec<[u32; 2]>) {
+    let (mut m, rows) = rows(random);
+    let mut rows: Vec<[u32; 2]> = rows.iter().map(|row| [row.c, row.t]).collect();
+    for _ in 0..random.between(0, 3) {
+        // Numbers that are in bounds again when they are cut to 8 or 16 bits.
+        let i = random.below(rows.len());
+        match random.below(8) {
+            0 => m = random.pick(&[0, 1, 2, MAX_CORES, MAX_CORES + 1, u32::MAX]),
+            1 => m |= random.pick(&[1 << 8, 1 << 16, 1 << 31]),
+            2 => rows.resize(random.pick(&[63, 64, 65, 66, 255, 256, 257, 320]), rows[i]),
+            3 => rows[i][random.below(2)] |= random.pick(&[1 << 16, 1 << 31]),
+            4 => rows[i] = rows[i].map(|number| number + (1 << 16)),
+            5 => rows[i][random.below(2)] = random.next() as u32,
+            6 => rows[i] = random.pick(&[[0, 0], [0, 1], [1, 0], [2, 1], [u32::MAX, u32::MAX]]),
+            _ => {
+                let t = MAX_PERIOD + random.between(0, 1);
+                rows[i] = [random.pick(&[0, 1, t, t + 1]), t];
+            }
+        }
+    }
+    if random.chance(30) {
+        rows.clear();
     }
     (m, rows)
 }
