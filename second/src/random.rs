@@ -483,3 +483,66 @@ fn any_byte(random: &mut Random) -> u8 {
         random.pick(b"0123456789abcdefAFg\n\r \0")
     }
 }
+
+#[cfg(test)]
+mod tests {
+    use super::*;
+    use crate::table::Table;
+    use crate::verdict;
+
+    /// The first random tables that pass their tests, with their repeat lengths.
+    struct Drawn(Vec<(u32, Vec<Row>, u32)>);
+
+    impl Drawn {
+        fn new() -> Drawn {
+            let drafts = (0..4_000).map(|i| rows(&mut Random::new(1, 0, i)));
+            let taken = drafts.filter(|(m, rows)| Table::from_rows(*m, rows).is_ok());
+            let with_length = taken.filter_map(|(m, rows)| {
+                let h = verdict::repeat_length(&rows)?;
+                Some((m, rows, h))
+            });
+            Drawn(with_length.collect())
+        }
+
+        /// How many have a property.
+        fn with(&self, property: impl Fn(u32, &[Row], u32) -> bool) -> usize {
+            let tables = self.0.iter();
+            tables.filter(|(m, rows, h)| property(*m, rows, *h)).count()
+        }
+    }
+
+    #[test]
+    fn tables_are_drawn_over_the_whole_range() {
+        let drawn = Drawn::new();
+        for m in MIN_CORES..=MAX_CORES {
+            assert!(drawn.with(|cores, _, _| cores == m) > 10, "{m} cores");
+        }
+        for n in 1..=MAX_TASKS {
+            assert!(drawn.with(|_, rows, _| rows.len() == n) > 5, "{n} tasks");
+        }
+        assert!(drawn.with(|_, rows, _| rows.iter().any(|row| row.t > 60_000)) > 100);
+        assert!(drawn.with(|_, rows, _| rows.iter().any(|row| row.t == MAX_PERIOD)) > 1);
+        assert!(drawn.with(|_, rows, _| rows.iter().any(|row| row.t == 1)) > 100);
+        assert!(drawn.with(|_, _, h| h > MAX_REPEAT_LENGTH - 2_000) > 50);
+    }
+
+    #[test]
+    fn tables_are_drawn_on_both_sides_of_every_line() {
+        let drawn = Drawn::new();
+        let sides = |m, rows: &[Row], h| {
+            let (load, limit) = verdict::sides(m, rows, h);
+            load.cmp(&limit)
+        };
+        assert!(drawn.with(|m, rows, h| sides(m, rows, h).is_lt()) > 500);
+        assert!(drawn.with(|m, rows, h| sides(m, rows, h).is_eq()) > 100);
+        assert!(drawn.with(|m, rows, h| sides(m, rows, h).is_gt()) > 500);
+        let share = |m: u32, row: &Row| (row.c * (3 * m - 2)).cmp(&(row.t * m));
+        assert!(drawn.with(|m, rows, _| rows.iter().any(|row| share(m, row).is_eq())) > 200);
+        assert!(drawn.with(|m, rows, _| rows.iter().any(|row| share(m, row).is_gt())) > 500);
+        assert!(drawn.with(|_, rows, _| rows.iter().any(|row| row.c == row.t)) > 500);
+        let harmonic = |a: &Row, b: &Row| a.t.is_multiple_of(b.t) || b.t.is_multiple_of(a.t);
+        let chain = |rows: &[Row]| rows.iter().all(|a| rows.iter().all(|b| harmonic(a, b)));
+        assert!(drawn.with(|_, rows, _| rows.len() > 4 && chain(rows)) > 100);
+        assert!(drawn.with(|_, rows, _| !chain(rows)) > 500);
+    }
+}
