@@ -1,3 +1,5 @@
 pub mod Replying
 pub mod Loading
 pub mod Opening
+pub mod Telling
+pub mod Running

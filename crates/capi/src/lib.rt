@@ -3,4 +3,5 @@
 // A call is taken or refused as a whole: where it is refused, what was lent is left as it was. In C a slice is a pointer and a
 // length, and a `&mut` of a number a pointer.
 mod answer;
+pub mod state;
 pub mod table;
