@@ -3,3 +3,4 @@ pub mod Loading
 pub mod Opening
 pub mod Telling
 pub mod Running
+pub mod Unique

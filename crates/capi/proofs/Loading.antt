@@ -14,45 +14,26 @@ use Rattle.rules.specs.States.{State}
 use Rattle.rules.specs.Forms.{wellFormed}
 use Rattle.rules.specs.Answers.{lay, roomTest, stateTest}
 use Rattle.rules.specs.declared.refusal.Refusal.the-variants.{BadState}
-use Rattle.priority_laws.proofs.Order.{order-length}
-use Rattle.slot_laws.proofs.Forms.{Kept, formed-kept}
+use Rattle.slot_laws.proofs.Forms.{formed-kept}
 use Rattle.tables.specs.Writes.{wrote}
-use Rattle.machine.specs.Full.{Sized}
 use Rattle.machine.specs.Views.{view, pack, padded, formed}
 use Rattle.machine.specs.Answers.{asked}
 use Rattle.machine.proofs.Packing.{view-pack}
+use Rattle.machine.proofs.Packed.{formed-pack, kept-sized, struct-formed}
 use Rattle.machine.proofs.Asking.{formed-says, asked-ill}
 use Rattle.stored.specs.Layout.{lengthOf, store, sizeIn, decoded, load}
 use Rattle.stored.specs.Answers.{noState, stateAnswer, storeState, storedState}
 use Rattle.stored.proofs.Round.{decoded-size}
-use Rattle.stored.proofs.Packed.{formed-pack}
 
 -- ---- the struct of a well-formed state
 
 module _ (st : State) (w : T (wellFormed st)) where
-  kept : Kept st
-  kept = formed-kept st w
-
-  -- has a number for each task
-  one-each : Sized st
-  one-each =
-      record {
-        ranks = ap length (kept .ranked) ∙ order-length (st .table);
-        left = kept .left-length;
-        last = kept .last-length;
-        done = kept .done-length;
-        dropped = kept .dropped-length;
-      }
-
   says : view (pack st) ≡ st
-  says = view-pack st one-each
-
-  is-formed : formed (pack st) ≡ true
-  is-formed = formed-pack st one-each (kept .taken .tasks-high) ∙ of-T (wellFormed st) w
+  says = view-pack st (kept-sized (formed-kept st w))
 
   pub asked-packed : {A : Type 0} (ask : State → Answer A) → asked (pack st) ask ≡ ask st
   unfolding asked
-  asked-packed ask = rw (of-T (padded (pack st)) (formed-says (pack st) is-formed .0), says)
+  asked-packed ask = rw (of-T (padded (pack st)) (formed-says (pack st) (struct-formed st w) .0), says)
 
   -- the test of its form is passed
   pub formed-passes : {A : Type 0} (tests : List Test) (a : A) → settle (stateTest st ∷ tests) a ≡ settle tests a
