@@ -3,4 +3,5 @@ pub mod Loading
 pub mod Opening
 pub mod Telling
 pub mod Running
+pub mod Judging
 pub mod Unique

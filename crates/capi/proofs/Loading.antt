@@ -1,7 +1,7 @@
 -- Bytes read as a state: a well-formed state of their own length, or refused. The struct of a well-formed state says that state:
 -- what is asked of it is asked of the state, and its bytes are the state's.
 use Prim.Native.Nat.{ℕ}
-use mathlib.Core.Path.{_≡_, refl, sym, ap, _∙_}
+use mathlib.Core.Path.{_≡_, refl, sym, ap, subst, _∙_}
 use mathlib.Core.Bool.{Bool, true, false, not}
 use mathlib.Core.List.{List, [], _∷_}
 use native.Mathlib.Omega.{arith}
@@ -14,16 +14,18 @@ use Rattle.rules.specs.States.{State}
 use Rattle.rules.specs.Forms.{wellFormed}
 use Rattle.rules.specs.Answers.{lay, roomTest, stateTest}
 use Rattle.rules.specs.declared.refusal.Refusal.the-variants.{BadState}
-use Rattle.slot_laws.proofs.Forms.{formed-kept}
-use Rattle.tables.specs.Writes.{wrote}
+use Rattle.slot_laws.proofs.Forms.{formed-kept, accepts-of}
 use Rattle.machine.specs.Views.{view, pack, padded, formed}
 use Rattle.machine.specs.Answers.{asked}
 use Rattle.machine.proofs.Packing.{view-pack}
 use Rattle.machine.proofs.Packed.{formed-pack, kept-sized, struct-formed}
+use Rattle.machine.proofs.Starting.{opened}
 use Rattle.machine.proofs.Asking.{formed-says, asked-ill}
 use Rattle.stored.specs.Layout.{lengthOf, store, sizeIn, decoded, load}
 use Rattle.stored.specs.Answers.{noState, stateAnswer, storeState, storedState}
+use Rattle.stored.specs.declared.load.StateAnswer.{StateAnswer}
 use Rattle.stored.proofs.Round.{decoded-size}
+use Rattle.capi.specs.Answers.{wroteText, Judgeable}
 
 -- ---- the struct of a well-formed state
 
@@ -40,8 +42,8 @@ module _ (st : State) (w : T (wellFormed st)) where
   unfolding stateTest
   formed-passes tests a = rw (of-T (wellFormed st) w)
 
-  pub stored-packed : (out : List ℕ) (place : ℕ) → storedState (pack st) out place ≡ wrote (length (store st)) out (settle (roomTest out place (length (store st)) ∷ []) (lay out place (store st)))
-  unfolding storedState storeState
+  pub stored-packed : (out : List ℕ) (place : ℕ) → storedState (pack st) out place ≡ wroteText out place (store st)
+  unfolding storedState storeState wroteText
   stored-packed out place =
       rw (says, asked-packed (λ x. storeState x out place), formed-passes (roomTest out place (length (store st)) ∷ []) (lay out place (store st)))
 
@@ -79,3 +81,12 @@ module _ {A : Type 0} (tests : State → List Test) (value : State → A) where
 
   pub asked-loaded : (bs : List ℕ) → asked (stateAnswer (load bs) .state) ask ≡ andThen (load bs) ask
   asked-loaded bs = by-loads (loads bs)
+
+-- a run could start with the table of a state that was read
+judgeable : {bs : List ℕ} {a : Answer State} → Loads bs a → Judgeable (stateAnswer a)
+unfolding stateAnswer pack
+judgeable (well st w len) = λ told. opened (st .table) (accepts-of (st .table) (formed-kept st w .taken))
+judgeable ill = λ told. let z : _≡_ {A = ℕ} 0 1 = cc in absurd (omega arith)
+
+pub loads-judgeable : (bs : List ℕ) {x : StateAnswer} → x ≡ stateAnswer (load bs) → Judgeable x
+loads-judgeable bs e = subst Judgeable (sym e) (judgeable (loads bs))

@@ -2,12 +2,12 @@
 use Prim.Native.Nat.{ℕ, _+_}
 use mathlib.Core.Path.{_≡_, refl, sym, ap, subst, _∙_}
 use mathlib.Core.Bool.{Bool, true, false, cond}
-use mathlib.Core.List.{List, [], _∷_}
+use mathlib.Core.List.{List}
 use mathlib.Core.Option.{none, some}
 use native.Mathlib.Omega.{arith}
 use lib.Dec.{T, ltb}
 use lib.ListN.{length}
-use Rattle.rules.specs.Refusals.{Answer, taken, refused, answered, settle, andThen}
+use Rattle.rules.specs.Refusals.{Answer, taken, refused, answered, andThen}
 use Rattle.rules.specs.Rows.{Row}
 use Rattle.rules.specs.Tables.{Table, listTests, accepts, takeList}
 use Rattle.rules.specs.Files.{readFile}
@@ -19,7 +19,7 @@ use Rattle.reading_laws.proofs.Files.{written-read}
 use Rattle.slot_laws.proofs.Books.{fresh-formed}
 use Rattle.tables.specs.Views as Tables
 use Rattle.tables.specs.Views.{withoutTable, tableAnswer}
-use Rattle.tables.specs.Writes.{made, wrote}
+use Rattle.tables.specs.Writes.{made}
 use Rattle.tables.specs.declared.table.Table as TableDeclared
 use Rattle.tables.specs.declared.table.Outcome.the-variants as outcome
 use Rattle.tables.specs.declared.table.TableAnswer.{TableAnswer}
@@ -32,8 +32,8 @@ use Rattle.machine.proofs.Starting.{opened}
 use Rattle.stored.specs.Layout.{store}
 use Rattle.stored.specs.Answers.{storedState}
 use Rattle.capi.specs.Calls.{reply, replied, filled, sized, laid, openTable, lineOf}
-use Rattle.capi.specs.Answers.{numbered, lineIn, Startable, freshOf}
-use Rattle.capi.proofs.Replying.{wrote-replied, refusal-replied}
+use Rattle.capi.specs.Answers.{numbered, lineIn, wroteText, Startable, freshOf}
+use Rattle.capi.proofs.Replying.{text-replied, refusal-replied}
 use Rattle.capi.proofs.Loading.{stored-packed}
 
 -- ---- the fresh state of a struct that a run can start with, stored
@@ -74,10 +74,9 @@ takes-startable a h e = subst Startable (sym e) (startable a h)
 module _ (a : Answer Table) (state : List ℕ) (before : ℕ) {w : WriteAnswer} {state′ : List ℕ} {number size : ℕ} (settled : reply number size ≡ numbered before w) where
   replied-fresh : (b : Answer Table) → made w state′ ≡ freshOf (tableAnswer b .outcome) (tableAnswer b .table) state
       → reply number (filled state′ size) ≡ replied (filled state before) (andThen b (λ tbl. openTable tbl state))
-  unfolding tableAnswer withoutTable freshOf openTable laid
+  unfolding tableAnswer withoutTable freshOf openTable
   replied-fresh (taken tbl) f =
-      wrote-replied state before settled (length (store (fresh tbl))) (settle (roomTest state 0 (length (store (fresh tbl))) ∷ []) (lay state 0 (store (fresh tbl))))
-      (f ∙ ap (λ (y : Table). wrote (length (store (fresh y))) state (settle (roomTest state 0 (length (store (fresh y))) ∷ []) (lay state 0 (store (fresh y))))) (view-pack tbl))
+      text-replied state before settled 0 (store (fresh tbl)) (f ∙ ap (λ (y : Table). wroteText state 0 (store (fresh y))) (view-pack tbl))
   replied-fresh (refused r l) f = refusal-replied state before settled r l f
 
   pub open-replied : {x : TableAnswer} → x ≡ tableAnswer a → made w state′ ≡ freshOf (x .outcome) (x .table) state

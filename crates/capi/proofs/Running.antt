@@ -40,6 +40,7 @@ use Rattle.stored.specs.Answers.{stateAnswer, storedState}
 use Rattle.stored.specs.declared.load.StateAnswer.{StateAnswer}
 use Rattle.stored.proofs.Round.{length-store}
 use Rattle.capi.specs.Calls.{reply, replied, Run, run, runStored}
+use Rattle.capi.specs.Answers.{wroteText}
 use Rattle.capi.proofs.Loading.{stored-packed, Loads, well, ill, loads, asked-loaded}
 
 -- ---- bytes stored over bytes of the same length
@@ -50,7 +51,7 @@ module _ (st : State) (w : T (wellFormed st)) (bs : List ℕ) (len : length (sto
 
   -- storing is not refused, and nothing of what stood there is left
   stored-over : storedState (pack st) bs 0 ≡ made (Written (length (store st))) (store st)
-  unfolding wrote roomTest
+  unfolding wroteText wrote roomTest
   stored-over = stored-packed st w bs 0 ∙ rw (le-ltb (length bs) (0 + length (store st)) (omega arith), all-laid)
 
 packed-m : (st : State) → pack st .table .m .0 ≡ st .table .m

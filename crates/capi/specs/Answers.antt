@@ -16,6 +16,10 @@ use Rattle.tables.specs.declared.write.WriteAnswer.{WriteAnswer}
 use Rattle.tables.specs.declared.write.WriteAnswer.the-variants.{Written, Refused}
 use Rattle.machine.specs.Tables.{Opened}
 use Rattle.stored.specs.Layout.{store}
+use Rattle.stored.specs.declared.load.Outcome as loadOutcome
+use Rattle.stored.specs.declared.load.Outcome.the-variants as loaded
+use Rattle.stored.specs.declared.load.StateAnswer.{StateAnswer}
+use Rattle.reports.specs.Heads.{head}
 use Rattle.capi.specs.Calls.{Reply, reply}
 
 -- the number of an answer, and the size after it
@@ -28,13 +32,24 @@ abbrev pub lineIn : Outcome → ℕ
 lineIn outcome.Taken = 0
 lineIn (outcome.Refused r l) = l
 
+-- a text written into a buffer from a place on, or 7
+unfoldable pub wroteText : List ℕ → ℕ → List ℕ → Wrote
+wroteText out place txt = wrote (length txt) out (settle (roomTest out place (length txt) ∷ []) (lay out place txt))
+
 -- where a table was taken, a run can start with it
 abbrev pub Startable : TableAnswer → Type 0
 Startable a = a .outcome ≡ outcome.Taken → Opened (a .table)
 
 -- the bytes of the fresh state of a table that was taken
 unfoldable pub freshOf : Outcome → Table → List ℕ → Wrote
-freshOf outcome.Taken t state =
-    let bytes : List ℕ = store (fresh (view t)) in
-    wrote (length bytes) state (settle (roomTest state 0 (length bytes) ∷ []) (lay state 0 bytes))
+freshOf outcome.Taken t state = wroteText state 0 (store (fresh (view t)))
 freshOf (outcome.Refused r l) t state = made (Refused r) state
+
+-- where a state was loaded, a run could start with its table
+abbrev pub Judgeable : StateAnswer → Type 0
+Judgeable a = a .outcome ≡ loaded.Taken → Opened (a .state .table)
+
+-- frames `11` and `12` of the table of a state that was loaded
+unfoldable pub headOf : loadOutcome.Outcome → Table → List ℕ → ℕ → Wrote
+headOf loaded.Taken t out place = wroteText out place (head (view t))
+headOf (loaded.Refused r) t out place = made (Refused r) out

@@ -1,6 +1,6 @@
 -- What each call of the C interface returns and leaves: the answer of the rules, and what becomes of the values that were lent.
 use Prim.Native.Nat.{ℕ}
-use mathlib.Core.List.{List, [], _∷_}
+use mathlib.Core.List.{List, [], _∷_, _++_}
 use lib.ListN.{length}
 use lib.IntN.{ℤ}
 use Rattle.rules.specs.Refusals.{numberOf, Answer, taken, refused, settle, andThen}
@@ -8,7 +8,8 @@ use Rattle.rules.specs.Rows.{Row}
 use Rattle.rules.specs.Tables.{Table, takeList}
 use Rattle.rules.specs.Files.{text, readFile}
 use Rattle.rules.specs.States.{fresh}
-use Rattle.rules.specs.Runs.{slotLines, totalsLine}
+use Rattle.rules.specs.Verdicts.{order}
+use Rattle.rules.specs.Runs.{verdictLine, orderLine, slotLines, totalsLine}
 use Rattle.rules.specs.Answers.{lay, roomTest, writeList, runSlots, writeTotals, askLead}
 use Rattle.stored.specs.Layout.{store, load}
 
@@ -78,6 +79,10 @@ unfoldable pub opened : Filled → Answer Filled → Read
 opened old a = read (replied old a) (lineOf a)
 
 -- ---- stored states
+
+-- verdict and order of the table, frames `11` and `12`: 9, then 7
+unfoldable pub giveVerdict : List ℕ → List ℕ → ℕ → Answer Filled
+giveVerdict state out place = andThen (load state) (λ st. laid out place (verdictLine (st .table) ++ orderLine (order (st .table))))
 
 -- what a run leaves: the bytes of the state after it, and its frames with their length
 pub record Run : Type 0 where

@@ -5,3 +5,4 @@
 mod answer;
 pub mod state;
 pub mod table;
+pub mod verdict;
