@@ -4,6 +4,7 @@ pub mod Ranking
 pub mod Padding
 pub mod Fitting
 pub mod Packing
+pub mod Packed
 pub mod Passing
 pub mod Forming
 pub mod Starting

@@ -25,17 +25,16 @@ use Rattle.rules.specs.Answers.{Ran, lay, stateTest, roomTest, runSlots}
 use Rattle.rules.specs.declared.verdict.Verdict.the-variants.{NotAdmitted, Admitted}
 use Rattle.rules.specs.declared.refusal.Refusal.{Refusal}
 use Rattle.rules.specs.declared.refusal.Refusal.the-variants.{BadState, PastClock}
-use Rattle.priority_laws.proofs.Order.{order-length}
 use Rattle.slot_laws.proofs.Forms.{Kept, accepted}
 use Rattle.slot_laws.proofs.Books.{run-kept}
 use Rattle.reading_laws.proofs.Tests.{accepts-iff}
 use Rattle.bound.specs.Demand3.{Demand3}
 use Rattle.bound.proofs.Demand3.{demand-3}
-use Rattle.machine.specs.Full.{Sized}
 use Rattle.machine.specs.Views.{units, packed, view, pack, padded}
 use Rattle.machine.specs.Answers.{asked}
 use Rattle.machine.specs.declared.state.State.{State}
 use Rattle.machine.proofs.Packing.{view-pack}
+use Rattle.machine.proofs.Packed.{kept-sized}
 use Rattle.runs.specs.Answers.{runEnd, ended, runAnswer}
 use Rattle.runs.specs.declared.run.RunAnswer.{RunAnswer}
 use Rattle.runs.specs.declared.run.RunOutcome.{RunOutcome}
@@ -109,19 +108,9 @@ module _ (tbl : Table) (t : T (accepts tbl)) where
   kept : (b : ℕ) → Kept (after b (fresh tbl))
   kept b = run-kept tbl t b
 
-  one-each : (b : ℕ) → Sized (after b (fresh tbl))
-  one-each b =
-      record {
-        ranks = ap length (kept b .ranked) ∙ order-length (after b (fresh tbl) .table);
-        left = kept b .left-length;
-        last = kept b .last-length;
-        done = kept b .done-length;
-        dropped = kept b .dropped-length;
-      }
-
   -- what the struct says
   says-back : {b : ℕ} {s : State} → Reached tbl b s → view s ≡ after b (fresh tbl)
-  says-back {b} g = ap view (g .says) ∙ view-pack (after b (fresh tbl)) (one-each b)
+  says-back {b} g = ap view (g .says) ∙ view-pack (after b (fresh tbl)) (kept-sized (kept b))
 
   module _ (u : T (admitted tbl)) where
     pub lossless : {b : ℕ} {s : State} → Reached tbl b s → Lossless s

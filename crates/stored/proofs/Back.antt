@@ -6,24 +6,22 @@ use mathlib.Core.Bool.{true}
 use mathlib.Core.List.{List}
 use native.Mathlib.Omega.{arith}
 use lib.Dec.{T}
-use lib.ListN.{length}
-use Rattle.laws.proofs.Tests.{and-left, and-right, of-T, to-T}
+use Rattle.laws.proofs.Tests.{and-left, and-right, to-T}
 use Rattle.rules.specs.Refusals.{Answer, taken, refused}
 use Rattle.rules.specs.States as States
 use Rattle.rules.specs.Forms.{wellFormed}
-use Rattle.priority_laws.proofs.Order.{order-length}
 use Rattle.slot_laws.proofs.Forms.{Kept, formed-kept}
-use Rattle.machine.specs.Full.{Full, Sized}
+use Rattle.machine.specs.Full.{Full}
 use Rattle.machine.specs.Views.{view, pack, padded, formed}
 use Rattle.machine.specs.declared.state.State.{State}
 use Rattle.machine.proofs.Packing.{pack-view, view-pack}
+use Rattle.machine.proofs.Packed.{kept-sized, struct-formed}
 use Rattle.stored.specs.Layout.{store, load}
 use Rattle.stored.specs.Answers.{stateAnswer}
 use Rattle.stored.specs.declared.load.Outcome.the-variants.{Taken, Refused}
 use Rattle.stored.specs.declared.load.StateAnswer.{StateAnswer}
 use Rattle.stored.proofs.Numbers.{Bytes}
 use Rattle.stored.proofs.Round.{stored-loads, loaded-stores}
-use Rattle.stored.proofs.Packed.{formed-pack}
 
 -- the answer that takes a struct
 abbrev pub takes : State → StateAnswer
@@ -45,17 +43,6 @@ taken-of (refused r l) s e =
     let z : _≡_ {A = ℕ} 0 1 = cc in
     absurd (omega arith)
 
--- a well-formed state has a number for each task
-kept-sized : {st : States.State} → Kept st → Sized st
-kept-sized {st} k =
-    record {
-      ranks = ap length (k .ranked) ∙ order-length (st .table);
-      left = k .left-length;
-      last = k .last-length;
-      done = k .done-length;
-      dropped = k .dropped-length;
-    }
-
 -- what is loaded as a struct stores as the same bytes, and is well formed
 pub bytes-back : (bs : List ℕ) → Bytes bs → (s : State) → stateAnswer (load bs) ≡ takes s → (store (view s) ≡ bs) × T (formed s)
 bytes-back bs small s e =
@@ -64,5 +51,5 @@ bytes-back bs small s e =
     let same : (store st ≡ bs) × T (wellFormed st) = loaded-stores bs small st (found .1) in
     let kept : Kept st = formed-kept st (same .1) in
     let says : view (pack st) ≡ st = view-pack st (kept-sized kept) in
-    let good : formed (pack st) ≡ true = formed-pack st (kept-sized kept) (kept .taken .tasks-high) ∙ of-T (wellFormed st) (same .1) in
+    let good : formed (pack st) ≡ true = struct-formed st (same .1) in
     rw (← found .2) (ap store says ∙ same .0, to-T good)

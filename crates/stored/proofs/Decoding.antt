@@ -19,13 +19,13 @@ use Rattle.tables.specs.Views as Tables
 use Rattle.machine.specs.Full.{Sized}
 use Rattle.machine.specs.Views.{taskNumber, coreNumber, units, packed, pack, formed}
 use Rattle.machine.specs.declared.state.State.{State}
+use Rattle.machine.proofs.Packed.{formed-pack}
 use Rattle.stored.specs.Layout.{placeOf, lengthOf, sizeIn, decoded, load}
 use Rattle.stored.specs.Places.{numberAt, rowAt, cell, Held}
 use Rattle.stored.specs.Answers.{stateAnswer}
 use Rattle.stored.specs.declared.load.Outcome.the-variants.{Taken}
 use Rattle.stored.proofs.Round.{decoded-size, other-length, not-formed, is-formed}
 use Rattle.stored.proofs.Cells.{cells, decoded-cells, size-byte}
-use Rattle.stored.proofs.Packed.{formed-pack}
 
 -- each number of a struct is the one at its place
 pub record Placed (bs : List ℕ) (n : ℕ) (s : State) : Type 0 where

@@ -3,7 +3,6 @@ pub mod Fields
 pub mod Round
 pub mod Loops
 pub mod Cells
-pub mod Packed
 pub mod Decoding
 pub mod Storing
 pub mod Back

@@ -1,6 +1,6 @@
 -- The struct that says a state is well formed where the state is.
 use Prim.Native.Nat.{ℕ, _-_, _≤_}
-use mathlib.Core.Path.{_≡_}
+use mathlib.Core.Path.{_≡_, ap, _∙_}
 use mathlib.Core.Bool.{true}
 use mathlib.Core.List.{List}
 use native.Mathlib.Omega.{arith}
@@ -15,10 +15,12 @@ use Rattle.rules.specs.Limits.{tasksMax}
 use Rattle.rules.specs.Tables.{size}
 use Rattle.rules.specs.States as States
 use Rattle.rules.specs.Forms.{wellFormed}
+use Rattle.priority_laws.proofs.Order.{order-length}
+use Rattle.slot_laws.proofs.Forms.{Kept, formed-kept}
 use Rattle.tables.specs.Views as Tables
 use Rattle.machine.specs.Full.{Sized}
 use Rattle.machine.specs.Views.{taskNumber, coreNumber, units, packed, pack, blank, padded, formed}
 use Rattle.machine.proofs.Packing.{view-pack}
 
 -- past the last number an array has 0
 packed-past : {A : Type 0} (make : ℕ → A) (l : List ℕ) (k : ℕ) → length l ≤ k → getD (packed make l) k (make 0) ≡ make 0
@@ -48,3 +50,20 @@ module _ (st : States.State) (z : Sized st) (few : size (st .table) ≤ tasksMax
   pub formed-pack : formed (pack st) ≡ wellFormed st
   unfolding formed
   formed-pack = rw (padded-pack, view-pack st z)
+
+-- a state that is kept has one entry for each task
+pub kept-sized : {st : States.State} → Kept st → Sized st
+kept-sized {st} k =
+    record {
+      ranks = ap length (k .ranked) ∙ order-length (st .table);
+      left = k .left-length;
+      last = k .last-length;
+      done = k .done-length;
+      dropped = k .dropped-length;
+    }
+
+-- so that the struct of a well-formed state passes the test of the form
+pub struct-formed : (st : States.State) → T (wellFormed st) → formed (pack st) ≡ true
+struct-formed st ok =
+    let kept : Kept st = formed-kept st ok in
+    formed-pack st (kept-sized kept) (kept .taken .tasks-high) ∙ of-T (wellFormed st) ok

@@ -1,0 +1,58 @@
+-- `reports::head::write_judgement` meets its contract: an accepted table is judged, and the frame of its judgement is its line.
+use Prim.Native.Nat.{ℕ}
+use mathlib.Core.Path.{ap, _∙_}
+use mathlib.Core.List.{List, _++_}
+use denote.Ref.{now}
+use lib.ListN.{drop}
+use borrow.Author.Needs.{needs}
+use Rattle.tables.specs.Views.{view}
+use Rattle.verdicts.specs.Lines.{verdictFrame}
+use Rattle.verdicts.specs.declared.table.Judgement.{Judgement}
+use Rattle.verdicts.proofs.Accepted.{verdict-line}
+use Rattle.reports.proofs.Heads.{judged-is, never-refused}
+use Rattle.reports.proofs.head.write_judgement.Statement.{statement}
+use Rattle.reports.proofs.head.write_judgement.Tie as tie
+
+verdict-requires : tie.Need-verdict-requires
+verdict-requires c κs = search needs
+
+enum-known-j : tie.Need-enum-known-j
+enum-known-j c = search needs
+
+enum-told : tie.Need-enum-told
+enum-told c = search needs
+
+returns : tie.Need-returns
+returns c =
+    let judged = c .before .before in
+    let start = judged .before .before in
+    absurd (never-refused (start .args .t) (start .pre .opened) (judged .verdict .ensures) (c .enum-told .given .1))
+
+write-verdict-requires : tie.Need-write-verdict-requires
+write-verdict-requires c κs = search needs
+
+same-length : tie.Need-same-length
+same-length c = search needs
+
+returns-2 : tie.Need-returns-2
+returns-2 c =
+    let written = c .before .before in
+    let known = written .before .before .before in
+    let judged = known .before .before in
+    let start = judged .before .before in
+    let rest = drop 15 (now (start .args .out)) in
+    written .write-verdict .ensures
+    ∙ ap (λ (j : Judgement). verdictFrame (j .verdict) (j .heavy) (j .repeat .0) ++ rest) (judged-is (start .args .t) (start .pre .opened) (judged .verdict .ensures) (known .j .given .1))
+    ∙ ap (λ (l : List ℕ). l ++ rest) (verdict-line (view (start .args .t)))
+
+pub write-judgement-spec : {M : Type 1} → statement M
+write-judgement-spec =
+    tie.close
+    (tie.spec
+    verdict-requires
+    enum-known-j
+    enum-told
+    returns
+    write-verdict-requires
+    same-length
+    returns-2)
