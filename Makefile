@@ -31,11 +31,17 @@ test: need-rt need-cc need-cargo
 check: need-rt
 	@$(RT) check
 
-lib: need-rt
+lib: need-rt $(LIBRARY) $(INCLUDE)/zitherquasar.h
+
+# rt proves the crate anew whenever it writes the archive.
+$(LIBRARY): crates.txt $(shell find crates -name '*.rt' -o -name '*.antt')
 	@$(RT) staticlib capi >&2
-	@mkdir -p $(dir $(LIBRARY)) $(INCLUDE)
-	@cp target/staticlib/libcapi.a $(LIBRARY)
-	@cp include/zitherquasar.h $(INCLUDE)/
+	@mkdir -p $(@D)
+	@cp target/staticlib/libcapi.a $@
+
+$(INCLUDE)/zitherquasar.h: include/zitherquasar.h
+	@mkdir -p $(@D)
+	@cp $< $@
 
 program: need-rt
 	@$(RT) check slots >&2

@@ -10,9 +10,9 @@
  * nothing: no byte of a lent buffer and no lent number differs, but for *line of
  * zq_open. A call that is taken writes what is named here and no other byte.
  *
- * The library allocates nothing, keeps nothing between calls and calls nothing.
- * It may be used from any thread; two calls at one time need separate buffers,
- * unless both only read them.
+ * The library allocates nothing, keeps nothing between calls and calls nothing but
+ * memcpy and memset. It may be used from any thread; two calls at one time need
+ * separate buffers, unless both only read them.
  *
  * Every pointer must be valid for the length beside it and must not be null, not
  * even for a length of 0. The buffers and numbers that one call may write (those
