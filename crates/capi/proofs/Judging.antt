@@ -12,7 +12,6 @@ use Rattle.rules.specs.States.{State}
 use Rattle.rules.specs.Answers.{roomTest}
 use Rattle.rules.specs.declared.refusal.Refusal.the-variants.{NoRoom}
 use Rattle.reading_laws.proofs.Lays.{lay-lent}
-use Rattle.tables.specs.Views as Tables
 use Rattle.tables.specs.Writes.{made, wrote}
 use Rattle.tables.specs.declared.write.WriteAnswer.{WriteAnswer}
 use Rattle.tables.specs.declared.write.WriteAnswer.the-variants.{Written, Refused}

@@ -18,7 +18,6 @@ use Rattle.tables.specs.declared.write.WriteAnswer.{WriteAnswer}
 use Rattle.machine.specs.Answers.{asked, leadAnswer}
 use Rattle.machine.specs.declared.lead.LeadAnswer.{LeadAnswer}
 use Rattle.machine.specs.declared.lead.LeadAnswer.the-variants.{Taken, Refused}
-use Rattle.machine.specs.declared.state.State as StateDeclared
 use Rattle.stored.specs.Layout.{load}
 use Rattle.stored.specs.Answers.{stateAnswer}
 use Rattle.stored.specs.declared.load.StateAnswer.{StateAnswer}

@@ -5,6 +5,7 @@ use Rattle.capi.specs.Calls.{reply, filled, read, run}
 use Rattle.capi.proofs.table.zq_open.Reads as zq-open
 use Rattle.capi.proofs.table.zq_open_list.Reads as zq-open-list
 use Rattle.capi.proofs.table.zq_write_list.Reads as zq-write-list
+use Rattle.capi.proofs.program.zq_report.Reads as zq-report
 use Rattle.capi.proofs.verdict.zq_verdict.Reads as zq-verdict
 use Rattle.capi.proofs.state.zq_run.Reads as zq-run
 use Rattle.capi.proofs.state.zq_totals.Reads as zq-totals
@@ -32,3 +33,6 @@ zq-totals-once κs a x y s t p q = both p q
 
 pub zq-lead-once : One zq-lead.Post (λ κs r s. reply r (now (s .1 .1 .0)))
 zq-lead-once κs a x y s t p q = both p q
+
+pub zq-report-once : One zq-report.Post (λ κs r s. reply r (filled (now (s .1 .0)) (now (s .1 .1 .1 .0))))
+zq-report-once κs a x y s t p q = both p q

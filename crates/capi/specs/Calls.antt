@@ -11,6 +11,7 @@ use Rattle.rules.specs.States.{fresh}
 use Rattle.rules.specs.Verdicts.{order}
 use Rattle.rules.specs.Runs.{verdictLine, orderLine, slotLines, totalsLine}
 use Rattle.rules.specs.Answers.{lay, roomTest, writeList, runSlots, writeTotals, askLead}
+use Rattle.rules.specs.Program.{program}
 use Rattle.stored.specs.Layout.{store, load}
 
 -- ---- a number, and what was lent
@@ -106,3 +107,9 @@ giveTotals state out place = andThen (load state) (λ st. sized (length (totalsL
 -- a task's lead: 9, then 3
 unfoldable pub giveLead : List ℕ → ℕ → Answer ℤ
 giveLead state task = andThen (load state) (λ st. askLead st task)
+
+-- ---- the program
+
+-- its text for an input: 7
+unfoldable pub giveReport : List ℕ → List ℕ → ℕ → Answer Filled
+giveReport input out place = laid out place (program input)

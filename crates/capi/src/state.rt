@@ -1,5 +1,5 @@
-// Stored states: run, and asked for the totals and for a task's lead. Bytes that are no state are loaded as the empty state, which
-// is refused by whatever is asked of a state, with 9, and so are the bytes.
+// Stored states: run, and asked for the totals and for a task's lead. Bytes that are no state are loaded as the empty state, and
+// whatever is asked of that is refused with 9, as it is to be of the bytes.
 use crate::answer::number_of;
 use crate::answer::settle;
 use machine::lead::LeadAnswer;
@@ -23,7 +23,8 @@ fn length_of(count: u32, m: u32) -> usize
     (count as usize) * frame_length(m as usize)
 }
 
-// Runs a count of slots: their frames go into `out` from place `at` on, the bytes of the state after them into `state`.
+// Runs a count of slots: their frames go into `out` from place `at` on, the bytes of the state after them become `state`.
+// They are as many as those of the state before, so that storing them is not refused.
 #[no_mangle]
 pub extern "C" fn zq_run(
     state: &mut [u8],
@@ -57,7 +58,7 @@ pub extern "C" fn zq_totals(state: &[u8], out: &mut [u8], at: usize, size: &mut 
     settle(write_totals(s, out, at), size)
 }
 
-// The lead of a task.
+// The lead of a task becomes `lead`.
 #[no_mangle]
 pub extern "C" fn zq_lead(state: &[u8], task: u32, lead: &mut i64) -> u32
     ensures { λ r. ⌜ reply r (now (lead .exit)) ≡ replied (now (lead .entry)) (giveLead (now (state .entry)) task) ⌝ }

@@ -1,5 +1,6 @@
 // Verdict and order of a stored state's table.
 use crate::answer::settle;
+use reports::head::head_length;
 use reports::head::write_head;
 use rules::refusal::Refusal;
 use stored::load::Outcome;
@@ -11,16 +12,9 @@ ghost use mathlib.Core.Path.{_≡_};
 ghost use Rattle.tables.specs.Views.{view};
 ghost use Rattle.tables.specs.Writes.{made};
 ghost use Rattle.machine.specs.Tables.{Opened};
-ghost use Rattle.reports.specs.Heads.{head, headLength};
+ghost use Rattle.reports.specs.Heads.{head};
 ghost use Rattle.capi.specs.Calls.{reply, replied, filled, giveVerdict};
 ghost use Rattle.capi.specs.Answers.{wroteText, Judgeable, headOf};
-
-// How many bytes both frames take.
-fn head_length(t: Table) -> usize
-    ensures { λ r. ⌜ r ≡ headLength (view t) ⌝ }
-{
-    18 + 2 * tables::repeat::rows_of(t.n)
-}
 
 // Both frames of a table, from a place of the buffer on.
 fn write_head_at(t: Table, out: &mut [u8], at: usize) -> WriteAnswer

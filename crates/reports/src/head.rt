@@ -11,6 +11,13 @@ ghost use Rattle.rules.specs.Verdicts.{order};
 ghost use Rattle.tables.specs.Views.{view};
 ghost use Rattle.reports.specs.Heads.{Room, head, headLength};
 
+// How many bytes the two frames take.
+pub fn head_length(t: Table) -> usize
+    ensures { λ r. ⌜ r ≡ headLength (view t) ⌝ }
+{
+    18 + 2 * tables::repeat::rows_of(t.n)
+}
+
 // Frame `11` at the front of the lent part; nothing after it differs.
 fn write_judgement(out: &mut [u8], t: Table)
     requires { ⌜ Room t 15 (now out) ⌝ }

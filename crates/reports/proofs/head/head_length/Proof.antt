@@ -1,10 +1,10 @@
--- `capi::verdict::head_length` meets its contract.
+-- `reports::head::head_length` meets its contract.
 use native.Mathlib.Omega.{arith}
-use Rattle.machine.proofs.Arrays.{table-full}
-use Rattle.reports.proofs.Heads.{count-is}
 use borrow.Author.Needs.{needs}
-use Rattle.capi.proofs.verdict.head_length.Statement.{statement}
-use Rattle.capi.proofs.verdict.head_length.Tie as tie
+use Rattle.machine.proofs.Arrays.{table-full}
+use Rattle.reports.proofs.Heads.{count-is}
+use Rattle.reports.proofs.head.head_length.Statement.{statement}
+use Rattle.reports.proofs.head.head_length.Tie as tie
 
 rows-of-requires : tie.Need-rows-of-requires
 rows-of-requires c κs = search needs
