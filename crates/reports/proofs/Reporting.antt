@@ -8,7 +8,7 @@ use native.Mathlib.Omega.{arith}
 use borrow.Author.Tests.{ltb-true, ltb-false, lt-ltb, le-ltb}
 use borrow.Rule.Slice.PartMut.{putMid}
 use lib.Dec.{ltb}
-use lib.ListN.{length, take, drop}
+use lib.ListN.{length, take, drop, length-append}
 use lib.Seq.{take-all}
 use Rattle.laws.proofs.Tests.{decide}
 use Rattle.rules.specs.Limits.{inputMax}
@@ -104,3 +104,8 @@ module _ (input out : List ℕ) (room : textMax ≤ length out) {r : WriteAnswer
   -- and gets all of it
   pub printed : {n : ℕ} → r ≡ Written n → Printed input out n out′
   printed e = record { count = cc answer-is; text = ap (λ (w : Wrote). w .out) all-written }
+
+-- what was printed lies within the buffer
+pub printed-inside : {input out : List ℕ} {n : ℕ} {out′ : List ℕ} → Printed input out n out′ → n ≤ length out′
+printed-inside {input} {out} p =
+    omega (arith, p .count, ap length (p .text), length-append (program input) (drop (length (program input)) out))

@@ -17,7 +17,7 @@ ghost use Rattle.tables.specs.Writes.{made};
 ghost use Rattle.reports.specs.Reports.{reportOf, replyTo, Answered, ReplyRoom};
 
 // What is read at most, in bytes.
-const INPUT_MAX: usize = 2048;
+pub const INPUT_MAX: usize = 2048;
 
 const REFUSAL_LENGTH: usize = 9;
 
