@@ -62,7 +62,7 @@ module _ {st : State} (kept : Kept st) where
   table = st .table
 
   -- where its clock is in bounds, no task was released more units than there are slots up to the end of its last period
-  released-fits : st .clock ≤ clockMax → (i : ℕ) → 1 ≤ i → i ≤ size table → released (rowOf table i) (st .clock) ≤ clockMax + 65_535
+  pub released-fits : st .clock ≤ clockMax → (i : ℕ) → 1 ≤ i → i ≤ size table → released (rowOf table i) (st .clock) ≤ clockMax + 65_535
   unfolding released releasesBefore demand
   released-fits clock i low high =
       let r : Row = rowOf table i in
