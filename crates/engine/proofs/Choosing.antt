@@ -3,14 +3,14 @@ use Prim.Native.Nat.{ℕ, suc, _+_, _-_, _≤_, _<_, zero-le}
 use mathlib.Core.Path.{_≡_, refl, sym, ap, _∙_}
 use mathlib.Core.Bool.{Bool, true, false, cond}
 use mathlib.Core.List.{List, [], _∷_, _++_, append-nil}
-use native.Mathlib.Nat.{sub-zero, sub-self}
+use native.Mathlib.Nat.{le-refl, add-zero, sub-zero, sub-self}
 use native.Mathlib.Numerals.{add-one}
 use native.Mathlib.Omega.{arith}
 use lib.Dec.{ltb}
 use lib.ListN.{length, getD, take, drop, set, length-set}
-use lib.Seq.{drop-cons, drop-length, take-nil}
+use lib.Seq.{drop-cons, drop-length, take-nil, take-set-le}
 use Rattle.laws.specs.Lists.{filter, at}
-use Rattle.laws.proofs.Filling.{written-next, written-rest, written-number, written-list}
+use Rattle.laws.proofs.Filling.{written-next, written-number}
 use Rattle.rules.specs.Slots.{choose}
 use Rattle.engine.specs.Choice.{Chose}
 
@@ -27,7 +27,6 @@ pub record Going (ranks left before chosen : List ℕ) (k r : ℕ) : Type 0 wher
   pub places : length chosen ≡ length before
   pub few : k ≤ length before
   pub within : r ≤ length ranks
-  pub tail : drop k chosen ≡ drop k before
   pub whole : take k chosen ++ take (length before - k) (filter (waits left) (drop r ranks)) ≡ choose (length before) ranks left
 
 module _ (ranks left before : List ℕ) where
@@ -38,7 +37,6 @@ module _ (ranks left before : List ℕ) where
         places = refl;
         few = zero-le;
         within = zero-le;
-        tail = refl;
         whole = ap (λ (n : ℕ). take n (filter (waits left) ranks)) (sub-zero (length before));
       }
 
@@ -50,10 +48,11 @@ module _ (ranks left before : List ℕ) where
     unfolding rest
     split = ap (filter (waits left)) (drop-cons ranks r 0 more) ∙ rw add-one
 
-    -- the next rank's task has left work, and there is a place
-    pub took : k < length before → waits left (getD ranks r 0) ≡ true → Going ranks left before (set chosen k (getD ranks r 0)) (k + 1) (r + 1)
+    -- the next rank's task is put down, and stays if it has left work
+    pub turn : k < length before → (w : Bool) → waits left (getD ranks r 0) ≡ w
+        → Going ranks left before (set chosen k (getD ranks r 0)) (k + cond w 1 0) (r + 1)
     unfolding rest
-    took room e =
+    turn room true e =
         let i = getD ranks r 0 in
         let room′ : k < length chosen = omega arith in
         let fits : length before - k ≡ suc (length before - (k + 1)) = omega arith in
@@ -61,24 +60,22 @@ module _ (ranks left before : List ℕ) where
           places = length-set chosen k i ∙ g .places;
           few = omega arith;
           within = omega arith;
-          tail = written-rest chosen k i before (g .tail);
           whole =
               written-next chosen k i (take (length before - (k + 1)) rest) room′
               ∙ ap (λ (l : List ℕ). take k chosen ++ l) (sym (one-taken fits (split ∙ rw e)))
               ∙ g .whole;
         }
-
-    -- it has none
-    pub passed : waits left (getD ranks r 0) ≡ false → Going ranks left before chosen k (r + 1)
-    unfolding rest
-    passed e =
-        record {
-          places = g .places;
+    turn room false e =
+        let i = getD ranks r 0 in
+        rw add-zero
+        (record {
+          places = length-set chosen k i ∙ g .places;
           few = g .few;
           within = omega arith;
-          tail = g .tail;
-          whole = ap (λ (l : List ℕ). take k chosen ++ take (length before - k) l) (sym (split ∙ rw e)) ∙ g .whole;
-        }
+          whole =
+              rw (take-set-le k chosen k i (le-refl k))
+              (ap (λ (l : List ℕ). take k chosen ++ take (length before - k) l) (sym (split ∙ rw e)) ∙ g .whole);
+        })
 
   module _ {chosen : List ℕ} {k r : ℕ} (g : Going ranks left before chosen k r) where
     -- no rank is left, or no place
@@ -86,8 +83,9 @@ module _ (ranks left before : List ℕ) where
     ended e =
         let all : take k chosen ≡ choose (length before) ranks left = sym (append-nil (take k chosen)) ∙ ap (λ (l : List ℕ). take k chosen ++ l) (sym e) ∙ g .whole in
         record {
+          places = g .places;
           number = written-number chosen k (omega (arith, g .places, g .few)) all;
-          entries = written-list chosen k before all (g .tail);
+          front = all;
         }
 
     pub no-rank : r ≡ length ranks → Chose ranks left before chosen k

@@ -73,7 +73,7 @@ module _ (t phase left dropped : List ℕ) where
         pub phase-low : getD phase′ i 0 < getD t i 0
         phase-low = rw phase-here (e .phases i more)
 
-        pub drops-fit : (p : ℕ) {d : ℕ} → d ≡ cond (eqb p 0) (getD left′ i 0) 0 → getD dropped′ i 0 + d < 2 ^ 64
+        pub drops-fit : (p : ℕ) {d : ℕ} → d ≡ cond (eqb p 0) (getD left′ i 0) 0 → getD dropped′ i 0 + d < 2 ^ 32
         drops-fit p ed = omega (arith, e .fits i more, dropped-here, left-here, cond-le (eqb p 0) (getD left′ i 0))
 
         pub misses-fit : (p : ℕ) {v : ℕ} → v ≡ cond (eqb p 0 && ltb 0 (getD left′ i 0)) 1 0 → misses + v < 2 ^ 32

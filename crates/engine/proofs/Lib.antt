@@ -2,6 +2,7 @@ pub mod Choosing
 pub mod Ending
 pub mod Keeping
 pub mod Placing
+pub mod Remembering
 pub mod Seating
 pub mod Stepping
 pub mod Steps

@@ -1,7 +1,7 @@
 -- The loop of `fill`: the lowest free core is never before the one that was looked at last.
-use Prim.Native.Nat.{ℕ, suc, _+_, _≤_, _<_}
+use Prim.Native.Nat.{ℕ, suc, _+_, _≤_, _<_, zero-le}
 use mathlib.Core.Path.{_≡_, refl, sym, ap, _∙_}
-use mathlib.Core.Bool.{true, false}
+use mathlib.Core.Bool.{true, false, cond}
 use mathlib.Core.Logic.{⊎-elim}
 use mathlib.Core.List.{List, [], _∷_, _++_}
 use native.Mathlib.Numerals.{add-one, sub-one}
@@ -10,17 +10,22 @@ use borrow.Author.Tests.{ltb-true, ltb-false}
 use lib.Dec.{eqb, ltb}
 use lib.ListN.{length, getD, take, drop, set, length-set, drop-of-length-le}
 use lib.Seq.{drop-cons, take-all, take-suc, take-suc-set}
-use Rattle.laws.specs.Lists.{count, position}
+use Rattle.laws.specs.Lists.{count, at, position}
 use Rattle.laws.proofs.Tests.{decide}
-use Rattle.laws.proofs.Positions.{hit-other, hit-same, count-append, count-set, position-first, stands-count}
+use Rattle.laws.proofs.Positions.{hit-le, hit-other, hit-same, count-append, count-set, position-first}
 use Rattle.rules.specs.Slots.{fillCores, seat}
+use Rattle.engine.specs.Placing.{movesTo, Remembered, Seated, Filling, Filled}
+use Rattle.engine.proofs.Remembering.{seated-size, seat-next}
 
 -- after j of the others have a core; none of the first k cores is free
-pub record Going (others before cores : List ℕ) (j k : ℕ) : Type 0 where
+pub record Going (others last before last′ cores : List ℕ) (moves j k : ℕ) : Type 0 where
   pub size : length cores ≡ length before
   pub passed : count (eqb 0) (take k cores) ≡ 0
   pub room : length others ≤ j + count (eqb 0) cores
   pub whole : fillCores (drop j others) cores ≡ fillCores others before
+  pub once : (i : ℕ) → 1 ≤ i → count (eqb i) cores + count (eqb i) (drop j others) ≤ 1
+  pub seated : Seated cores last last′ moves
+  pub few : moves ≤ k
 
 -- the first task takes the lowest free core
 fill-first : (is cores : List ℕ) (i k : ℕ) → position 0 cores ≡ suc k → fillCores (i ∷ is) cores ≡ fillCores is (set cores k i)
@@ -35,11 +40,20 @@ one-more-passed k v l m e none busy =
     ∙ ap (count (eqb 0)) e
     ∙ omega (arith, count-append (eqb 0) (take k l) (v ∷ []), hit-other busy)
 
-module _ (others before : List ℕ) where
-  pub start : length others ≤ count (eqb 0) before → Going others before before 0 0
-  start room = record { size = refl; passed = refl; room = omega arith; whole = refl }
+module _ {others last before : List ℕ} (f : Filling others last before) where
+  pub start : Going others last before last before 0 0 0
+  start =
+      record {
+        size = refl;
+        passed = refl;
+        room = omega (arith, f .room);
+        whole = refl;
+        once = f .once;
+        seated = f .kept;
+        few = zero-le;
+      }
 
-  module _ {cores : List ℕ} {j k : ℕ} (g : Going others before cores j k) where
+  module _ {last′ cores : List ℕ} {moves j k : ℕ} (g : Going others last before last′ cores moves j k) where
     -- a free core is still to come, as long as a task is
     pub more-cores : j < length others → k < length cores
     more-cores more =
@@ -49,34 +63,69 @@ module _ (others before : List ℕ) where
         absurd (omega (arith, g .room)))
         (decide (ltb k (length cores)))
 
+    -- cores are few
+    pub core-small : j < length others → k < 32
+    core-small more = omega (arith, more-cores more, g .size, f .small)
+
     -- the next core is free: the next task takes it
-    pub took : count (eqb 0) others ≡ 0 → j < length others → getD cores k 0 ≡ 0 → Going others before (set cores k (getD others j 0)) (j + 1) (k + 1)
-    took real more idle =
-        let i : ℕ = getD others j 0 in
-        let in-cores : k < length cores = more-cores more in
-        let task : 0 ≡ i → ⊥ = λ e. omega (arith, stands-count 0 others {k = suc j} (record { low = omega arith; high = more; here = sym e })) in
-        record {
-          size = length-set cores k i ∙ g .size;
-          passed = one-more-passed k i cores (set cores k i) (take-suc-set cores k i in-cores) (g .passed) task;
-          room = omega (arith, g .room, count-set (eqb 0) cores k i 0 in-cores, hit-other task, hit-same (sym idle));
-          whole =
-              ap (λ (n : ℕ). fillCores (drop n others) (set cores k i)) (add-one j)
-              ∙ sym (fill-first (drop (suc j) others) cores i k (position-first 0 cores k in-cores (g .passed) idle))
-              ∙ ap (λ (l : List ℕ). fillCores l cores) (sym (drop-cons others j 0 more))
-              ∙ g .whole;
-        }
+    module _ (more : j < length others) where
+      abbrev task : ℕ
+      task = getD others j 0
+
+      pub low : 1 ≤ task
+      low = f .named .from j more
+
+      pub high : task ≤ length last′
+      high = omega (arith, f .named .to j more, seated-size (g .seated))
+
+      next : (i : ℕ) → count (eqb i) (drop j others) ≡ cond (eqb i task) 1 0 + count (eqb i) (drop (suc j) others)
+      next i = ap (count (eqb i)) (drop-cons others j 0 more) ∙ omega arith
+
+      none : count (eqb task) cores ≡ 0
+      none = omega (arith, g .once task low, next task, hit-same {x = task} refl)
+
+      pub moves-fit : {last″ : List ℕ} {v : ℕ} → Remembered task (k + 1) last′ last″ v → moves + v ≤ 33
+      moves-fit h = omega (arith, h .number, hit-le (movesTo (k + 1) (at last′ task)), g .few, core-small more)
+
+      pub took : getD cores k 0 ≡ 0 → {last″ : List ℕ} {v : ℕ} → Remembered task (k + 1) last′ last″ v
+          → Going others last before last″ (set cores k task) (moves + v) (j + 1) (k + 1)
+      took idle h =
+          let inside : k < length cores = more-cores more in
+          record {
+            size = length-set cores k task ∙ g .size;
+            passed = one-more-passed k task cores (set cores k task) (take-suc-set cores k task inside) (g .passed) (λ e. omega (arith, low));
+            room = omega (arith, g .room, count-set (eqb 0) cores k task 0 inside, hit-other {x = 0} {y = task} (λ e. omega (arith, low)), hit-same (sym idle));
+            whole =
+                ap (λ (n : ℕ). fillCores (drop n others) (set cores k task)) (add-one j)
+                ∙ sym (fill-first (drop (suc j) others) cores task k (position-first 0 cores k inside (g .passed) idle))
+                ∙ ap (λ (l : List ℕ). fillCores l cores) (sym (drop-cons others j 0 more))
+                ∙ g .whole;
+            once =
+                λ i real.
+                rw (add-one j)
+                (omega (arith, g .once i real, next i, count-set (eqb i) cores k task 0 inside, hit-other {x = i} {y = getD cores k 0} (λ e. omega arith)));
+            seated = seat-next (g .seated) task k low (f .named .to j more) none idle inside h;
+            few = omega (arith, h .number, hit-le (movesTo (k + 1) (at last′ task)), g .few);
+          }
 
     -- it is not
-    pub passed-one : k < length cores → (getD cores k 0 ≡ 0 → ⊥) → Going others before cores j (k + 1)
+    pub passed-one : k < length cores → (getD cores k 0 ≡ 0 → ⊥) → Going others last before last′ cores moves j (k + 1)
     passed-one more busy =
         record {
           size = g .size;
           passed = one-more-passed k (getD cores k 0) cores cores (take-suc cores k 0 more) (g .passed) (λ e. busy (sym e));
           room = g .room;
           whole = g .whole;
+          once = g .once;
+          seated = g .seated;
+          few = omega (arith, g .few);
         }
 
     -- no task is to be placed any more
-    pub ended : length others ≤ j → cores ≡ fillCores others before
+    pub ended : length others ≤ j → Filled others last before last′ cores moves
     unfolding fillCores
-    ended done = ap (λ (l : List ℕ). fillCores l cores) (sym (drop-of-length-le others done)) ∙ g .whole
+    ended done =
+        record {
+          filled = ap (λ (l : List ℕ). fillCores l cores) (sym (drop-of-length-le others done)) ∙ g .whole;
+          seated = g .seated;
+        }

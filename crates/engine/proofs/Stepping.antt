@@ -8,18 +8,19 @@ use native.Mathlib.Nat.{le-refl, le-trans, not-suc-le-zero, eq-or-lt-of-le}
 use native.Mathlib.Decide.{decLe}
 use native.Mathlib.Omega.{arith}
 use lib.Dec.{eqb, ltb}
-use lib.ListN.{length, getD, take, drop, List·getD-eq-default}
+use lib.ListN.{length, getD, take, length-append, List·getD-eq-default}
+use lib.Seq.{take-append-le}
 use Rattle.laws.specs.Lists.{count, numbers, each, at, position}
-use Rattle.laws.proofs.Each.{length-each, at-each}
-use Rattle.laws.proofs.Filling.{front-taken, front-fits, at-pred}
+use Rattle.laws.proofs.Each.{length-each, at-each, each-cong}
+use Rattle.laws.proofs.Filling.{at-pred}
 use Rattle.laws.proofs.Positions.{StandsAt, position-stands, entry-counted}
-use Rattle.rules.specs.Slots.{choose, place, given}
+use Rattle.rules.specs.Slots.{choose, given, placed, moved}
 use Rattle.slot_laws.proofs.Choosing.{Choice, Ranking, choose-choice, choose-pending}
-use Rattle.slot_laws.proofs.Placing.{place-length, place-holds}
+use Rattle.slot_laws.proofs.Placing.{place-holds}
 use Rattle.engine.specs.Choice.{Named, Chose}
 use Rattle.engine.specs.Ends.{nextPhase, Ending, Ended}
 use Rattle.engine.specs.Ends.{ending as endsAt}
-use Rattle.engine.specs.Placing.{Placing}
+use Rattle.engine.specs.Placing.{Placing, Placed}
 use Rattle.engine.specs.Work.{Working, Worked}
 use Rattle.engine.specs.Step.{Stepped, stepped, releasedOn, coresOn, workedOn, effectOn, stepOn, Ready}
 
@@ -101,19 +102,19 @@ module _ {m : ℕ} {c t ranks phase left last done dropped : List ℕ} (r : Read
       (λ (low : 0 < i). chosen-within i (omega (arith, place-holds choice last i low, entry-counted cores k more)) .1)
       (eq-or-lt-of-le zero-le)
 
-  working : Working cores units last done
-  unfolding coresOn
+  working : Working chosen units done
   working =
       record {
-        few-tasks = omega (arith, r .few-tasks, units-size);
-        few-cores = omega (arith, r .few-cores, place-length m last chosen);
-        last-size = r .last-size ∙ sym units-size;
         done-size = r .done-size ∙ sym units-size;
-        within = λ k more. omega (arith, cores-within k more, units-size);
-        once = cores-once;
-        pending = λ i low high. omega (arith, place-holds choice last i low, choose-pending m units ranking i);
-        fits = λ i low high. r .done-fits i low (omega (arith, units-size));
+        named = rw units-size (rw (r .last-size) at named-chosen);
+        pending = λ i low high. choose-pending m units ranking i;
+        fits = λ i low high. omega (arith, choice .once i, r .done-fits i low (omega (arith, units-size)));
       }
+
+  -- each chosen task is on one core, and no other task is on any
+  given-chosen : (i : ℕ) → 1 ≤ i → count (eqb i) chosen ≡ given cores i
+  unfolding coresOn given
+  given-chosen i low = sym (place-holds choice last i low)
 
   worked-size : length (workedOn units cores) ≡ length left
   unfolding workedOn
@@ -152,12 +153,15 @@ module _ {m : ℕ} {c t ranks phase left last done dropped : List ℕ} (r : Read
       chosen-is : choose (length lent) ranks left₁ ≡ chosen
       chosen-is = rw (room, left-is)
 
-      picked-is : take k (picked ++ rest) ≡ chosen
-      picked-is = front-taken (choose (length lent) ranks left₁) (drop k lent) (chose .number) (chose .entries) rest ∙ chosen-is
+      count-is : k ≡ length chosen
+      count-is = chose .number ∙ ap length chosen-is
 
       -- the chosen tasks stand first in what was lent
       pub picked-fit : k ≤ length (picked ++ rest)
-      picked-fit = front-fits (choose (length lent) ranks left₁) (drop k lent) (chose .number) (chose .entries) rest
+      picked-fit = omega (arith, count-is, choice .few, chose .places, room, length-append picked rest)
+
+      picked-is : take k (picked ++ rest) ≡ chosen
+      picked-is = take-append-le k picked rest (omega (arith, count-is, choice .few, chose .places, room)) ∙ chose .front ∙ chosen-is
 
       -- what placing asks
       pub placing : {before : List ℕ} → length before ≡ m → Placing (take k (picked ++ rest)) last before
@@ -172,47 +176,55 @@ module _ {m : ℕ} {c t ranks phase left last done dropped : List ℕ} (r : Read
             small = omega (arith, r .few-cores);
           })
 
-      -- after the placing
-      module _ {cores₁ : List ℕ} (placed : cores₁ ≡ place m last (take k (picked ++ rest))) where
+      -- what the work asks
+      pub to-work : Working (take k (picked ++ rest)) left₁ done
+      to-work = rw (picked-is, left-is) working
+
+      -- after the placing and the work
+      module _ {before last₁ cores₁ left₂ done₁ : List ℕ} {moves : ℕ} (width : length before ≡ m)
+          (put : Placed (take k (picked ++ rest)) last before last₁ cores₁ moves) (worked : Worked (take k (picked ++ rest)) left₁ done left₂ done₁) where
         cores-is : cores₁ ≡ cores
         unfolding coresOn
-        cores-is = placed ∙ rw picked-is
+        cores-is = put .placing ∙ rw (width, picked-is)
 
-        -- what the work asks
-        pub to-work : Working cores₁ left₁ last done
-        to-work = rw (cores-is, left-is) working
+        lasts-are : last₁ ≡ each (length units) (λ i. cond (placed cores i) (position i cores) (at last i))
+        lasts-are = put .seated .lasts ∙ rw (cores-is, r .last-size, units-size)
 
-        -- after the work
-        module _ {left₂ last₁ done₁ : List ℕ} {moves : ℕ} (worked : Worked cores₁ left₁ last done left₂ last₁ done₁ moves) where
-          worked-on : Worked cores units last done left₂ last₁ done₁ moves
-          worked-on = rw (cores-is, left-is) at worked
+        moves-are : moves ≡ count (moved last cores) (numbers (length units))
+        moves-are = put .seated .number ∙ rw (cores-is, r .last-size, units-size)
 
-          worked-is : left₂ ≡ workedOn units cores
-          unfolding workedOn
-          worked-is = worked-on .lefts
+        worked-on : Worked chosen units done left₂ done₁
+        worked-on = rw (picked-is, left-is) at worked
 
-          -- what the end asks
-          pub to-end : Ending t phase left₂ dropped
-          to-end = rw worked-is ending
+        worked-is : left₂ ≡ workedOn units cores
+        unfolding workedOn
+        worked-is = worked-on .lefts ∙ each-cong (length units) _ _ (λ i low high. ap (λ (d : ℕ). at units i - d) (given-chosen i low))
 
-          -- after the end
-          module _ {phase₁ left₃ dropped₁ : List ℕ} {misses : ℕ} (ended : Ended t phase left₂ dropped phase₁ left₃ dropped₁ misses) where
-            ended-on : Ended t phase (workedOn units cores) dropped phase₁ left₃ dropped₁ misses
-            ended-on = rw worked-is at ended
+        dones-are : done₁ ≡ each (length units) (λ i. at done i + given cores i)
+        dones-are = worked-on .dones ∙ each-cong (length units) _ _ (λ i low high. ap (λ (d : ℕ). at done i + d) (given-chosen i low))
 
-            -- all that the slot leaves
-            pub whole : stepped phase₁ left₃ last₁ done₁ dropped₁ cores₁ moves misses ≡ stepOn m c t ranks phase left last done dropped
-            unfolding stepOn effectOn
-            whole =
-                let size : length (workedOn units cores) ≡ length units = worked-size ∙ sym units-size in
-                λ j.
-                record {
-                  phase = (ended-on .phases ∙ ap (λ (n : ℕ). each n (λ i. nextPhase (at phase i) (at t i))) size) j;
-                  left = (ended-on .lefts ∙ ap (λ (n : ℕ). each n (λ i. cond (endsAt phase t i) 0 (at (workedOn units cores) i))) size) j;
-                  last = worked-on .lasts j;
-                  done = worked-on .dones j;
-                  dropped = (ended-on .drops ∙ ap (λ (n : ℕ). each n (λ i. at dropped i + cond (endsAt phase t i) (at (workedOn units cores) i) 0)) size) j;
-                  cores = cores-is j;
-                  moves = worked-on .number j;
-                  misses = (ended-on .number ∙ ap (λ (n : ℕ). count (λ i. endsAt phase t i && ltb 0 (at (workedOn units cores) i)) (numbers n)) size) j;
-                }
+        -- what the end asks
+        pub to-end : Ending t phase left₂ dropped
+        to-end = rw worked-is ending
+
+        -- after the end
+        module _ {phase₁ left₃ dropped₁ : List ℕ} {misses : ℕ} (ended : Ended t phase left₂ dropped phase₁ left₃ dropped₁ misses) where
+          ended-on : Ended t phase (workedOn units cores) dropped phase₁ left₃ dropped₁ misses
+          ended-on = rw worked-is at ended
+
+          -- all that the slot leaves
+          pub whole : stepped phase₁ left₃ last₁ done₁ dropped₁ cores₁ moves misses ≡ stepOn m c t ranks phase left last done dropped
+          unfolding stepOn effectOn
+          whole =
+              let size : length (workedOn units cores) ≡ length units = worked-size ∙ sym units-size in
+              λ j.
+              record {
+                phase = (ended-on .phases ∙ ap (λ (n : ℕ). each n (λ i. nextPhase (at phase i) (at t i))) size) j;
+                left = (ended-on .lefts ∙ ap (λ (n : ℕ). each n (λ i. cond (endsAt phase t i) 0 (at (workedOn units cores) i))) size) j;
+                last = lasts-are j;
+                done = dones-are j;
+                dropped = (ended-on .drops ∙ ap (λ (n : ℕ). each n (λ i. at dropped i + cond (endsAt phase t i) (at (workedOn units cores) i) 0)) size) j;
+                cores = cores-is j;
+                moves = moves-are j;
+                misses = (ended-on .number ∙ ap (λ (n : ℕ). count (λ i. endsAt phase t i && ltb 0 (at (workedOn units cores) i)) (numbers n)) size) j;
+              }

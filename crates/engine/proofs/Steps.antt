@@ -3,7 +3,7 @@ use Prim.Native.Nat.{ℕ, suc, _+_, _-_, _/_, _%_, _^_, _≤_, _<_}
 use mathlib.Core.Path.{_≡_, sym, ap, _∙_}
 use mathlib.Core.Bool.{Bool, cond, _&&_}
 use mathlib.Core.List.{List, _∷_}
-use native.Mathlib.Nat.{mod-lt, mul-le-mul-right, div-le-self}
+use native.Mathlib.Nat.{mod-lt, mul-le-mul-right, mul-div-le}
 use native.Mathlib.Omega.{arith}
 use lib.Dec.{eqb, ltb}
 use lib.ListN.{length, getD, length-map, List·getD-map}
@@ -61,14 +61,14 @@ module _ {st : State} (kept : Kept st) where
   abbrev table : Table
   table = st .table
 
-  -- where its clock is in bounds, no task was released more units than 63 bits hold
-  released-fits : st .clock ≤ clockMax → (i : ℕ) → 1 ≤ i → i ≤ size table → released (rowOf table i) (st .clock) < 2 ^ 63
+  -- where its clock is in bounds, no task was released more units than there are slots up to the end of its last period
+  pub released-fits : st .clock ≤ clockMax → (i : ℕ) → 1 ≤ i → i ≤ size table → released (rowOf table i) (st .clock) ≤ clockMax + 65_535
   unfolding released releasesBefore demand
   released-fits clock i low high =
       let r : Row = rowOf table i in
       let fits : RowFits r = kept .taken .row i low high in
       let jobs : ℕ = (st .clock + (r .t - 1)) / r .t in
-      omega (arith, mul-le-mul-right {m = r .c} {n = 65_535} jobs (omega arith), div-le-self (st .clock + (r .t - 1)) (r .t))
+      omega (arith, mul-le-mul-right {m = r .c} {n = r .t} jobs (omega arith), mul-div-le (st .clock + (r .t - 1)) (r .t))
 
   -- and it gives all that a slot asks of its lists
   pub ready : st .clock ≤ clockMax

@@ -21,7 +21,7 @@ pub record Ending (t phase left dropped : List ℕ) : Type 0 where
   pub phase-size : length phase ≡ length left
   pub dropped-size : length dropped ≡ length left
   pub phases : (j : ℕ) → j < length left → getD phase j 0 < getD t j 0
-  pub fits : (j : ℕ) → j < length left → getD dropped j 0 + getD left j 0 < 2 ^ 64
+  pub fits : (j : ℕ) → j < length left → getD dropped j 0 + getD left j 0 < 2 ^ 32
 
 pub record Ended (t phase left dropped phase′ left′ dropped′ : List ℕ) (misses : ℕ) : Type 0 where
   pub phases : phase′ ≡ each (length left) (λ i. nextPhase (at phase i) (at t i))

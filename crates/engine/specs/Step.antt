@@ -77,8 +77,8 @@ pub record Ready (m : ℕ) (c t ranks phase left last done dropped : List ℕ) :
   pub phases : (i : ℕ) → 1 ≤ i → i ≤ length left → at phase i < at t i
   pub lefts : (i : ℕ) → 1 ≤ i → i ≤ length left → at left i ≤ at c i
   pub lasts : (i : ℕ) → 1 ≤ i → i ≤ length left → at last i ≤ m
-  pub done-fits : (i : ℕ) → 1 ≤ i → i ≤ length left → at done i + 1 < 2 ^ 64
-  pub dropped-fits : (i : ℕ) → 1 ≤ i → i ≤ length left → at dropped i + at c i < 2 ^ 64
+  pub done-fits : (i : ℕ) → 1 ≤ i → i ≤ length left → at done i + 1 < 2 ^ 32
+  pub dropped-fits : (i : ℕ) → 1 ≤ i → i ≤ length left → at dropped i + at c i < 2 ^ 32
 
 -- A state of the rules as such lists.
 

@@ -1,5 +1,6 @@
 // Of the tasks with left work the first m in priority order are chosen, or all if fewer.
 ghost use mathlib.Core.Path.{_≡_};
+ghost use mathlib.Core.Bool.{cond};
 ghost use Prim.Native.Nat.{_≤_};
 ghost use lib.ListN.{length};
 ghost use lib.Dec.{ltb};
@@ -13,7 +14,14 @@ fn pending(left: &[u32], i: u8) -> bool
     0 < left[(i - 1) as usize]
 }
 
-// As many as `chosen` has places: the first of them are filled, and their number is returned.
+fn one(waits: bool) -> usize
+    ensures { λ r. ⌜ r ≡ cond waits 1 0 ⌝ }
+{
+    if waits { 1 } else { 0 }
+}
+
+// As many as `chosen` has places: the first of them are filled, and their number is returned. Each task is put down and stays if
+// it waits: which tasks do changes from slot to slot, and a branch on it would be guessed wrong too often.
 pub fn choose(ranks: &[u8], left: &[u32], chosen: &mut [u8]) -> usize
     requires { ⌜ Named (length (now left)) (now ranks) ⌝ }
     ensures { λ k. ⌜ Chose (now (ranks .entry)) (now (left .entry)) (now (chosen .entry)) (now (chosen .exit)) k ⌝ }
@@ -25,10 +33,9 @@ pub fn choose(ranks: &[u8], left: &[u32], chosen: &mut [u8]) -> usize
             return k;
         }
         let i = ranks[r];
-        if pending(left, i) {
-            chosen[k] = i;
-            k += 1;
-        }
+        let waits = pending(left, i);
+        chosen[k] = i;
+        k += one(waits);
         r += 1;
     }
     k

@@ -19,10 +19,10 @@ fn kept(next: u32, left: u32) -> u32
     if next == 0 { 0 } else { left }
 }
 
-fn lost(next: u32, left: u32) -> u64
+fn lost(next: u32, left: u32) -> u32
     ensures { λ r. ⌜ r ≡ cond (eqb next 0) left 0 ⌝ }
 {
-    if next == 0 { left as u64 } else { 0 }
+    if next == 0 { left } else { 0 }
 }
 
 fn missed(next: u32, left: u32) -> u32
@@ -36,7 +36,7 @@ fn missed(next: u32, left: u32) -> u32
 }
 
 // The number of misses is returned.
-pub fn end(t: &[u32], phase: &mut [u32], left: &mut [u32], dropped: &mut [u64]) -> u32
+pub fn end(t: &[u32], phase: &mut [u32], left: &mut [u32], dropped: &mut [u32]) -> u32
     requires { ⌜ Ending (now t) (now phase) (now left) (now dropped) ⌝ }
     ensures { λ r. ⌜ Ended (now (t .entry)) (now (phase .entry)) (now (left .entry)) (now (dropped .entry)) (now (phase .exit)) (now (left .exit)) (now (dropped .exit)) r ⌝ }
 {

@@ -1,8 +1,8 @@
 // One slot on lent slices of plain numbers: what the slot machine runs in its loop, with no copy of the state.
 // A slice that speaks of tasks has one entry a task, in table order; `cores` has one entry a core.
-pub mod choose;
-pub mod end;
-pub mod place;
-pub mod release;
+mod choose;
+mod end;
+mod place;
+mod release;
 pub mod slot;
-pub mod work;
+mod work;

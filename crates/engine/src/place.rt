@@ -3,10 +3,10 @@
 ghost use mathlib.Core.Path.{_≡_};
 ghost use Prim.Native.Nat.{_≤_};
 ghost use lib.ListN.{length, replicate};
-ghost use lib.Dec.{eqb};
-ghost use Rattle.laws.specs.Lists.{count, at};
-ghost use Rattle.rules.specs.Slots.{place, free, fillCores, seat};
-ghost use Rattle.engine.specs.Placing.{Placing, Keeping, Kept};
+ghost use mathlib.Core.Bool.{cond};
+ghost use Rattle.laws.specs.Lists.{at};
+ghost use Rattle.rules.specs.Slots.{free, seat};
+ghost use Rattle.engine.specs.Placing.{movesTo, Remembered, Placing, Keeping, Kept, Filling, Filled, Placed};
 
 fn clear(cores: &mut [u8])
     ensures { λ _. ⌜ now (cores .exit) ≡ replicate (length (now (cores .entry))) 0 ⌝ }
@@ -65,30 +65,57 @@ fn keep(chosen: &[u8], last: &[u8], cores: &mut [u8], others: &mut [u8]) -> usiz
     n
 }
 
-// Each of the others takes the lowest free core. No core before `k` is free any more, so the search never goes back.
-fn fill(others: &[u8], cores: &mut [u8])
-    requires { ⌜ (length (now others) ≤ count (eqb 0) (now cores)) × (count (eqb 0) (now others) ≡ 0) ⌝ }
-    ensures { λ _. ⌜ now (cores .exit) ≡ fillCores (now (others .entry)) (now (cores .entry)) ⌝ }
+// 1 where the task ran before, on another core: a first run is no move.
+fn move_to(core: u8, last: u8) -> u32
+    ensures { λ r. ⌜ r ≡ cond (movesTo core last) 1 0 ⌝ }
 {
+    if core == last {
+        return 0;
+    }
+    if last == 0 { 0 } else { 1 }
+}
+
+// Task i remembers the core that it takes. Its move is returned.
+fn remember(last: &mut [u8], i: u8, core: u8) -> u32
+    requires { ⌜ (1 ≤ i) × (i ≤ length (now last)) ⌝ }
+    ensures { λ r. ⌜ Remembered i core (now (last .entry)) (now (last .exit)) r ⌝ }
+{
+    let j = (i - 1) as usize;
+    let before = last[j];
+    last[j] = core;
+    move_to(core, before)
+}
+
+// Each of the others takes the lowest free core. No core before `k` is free any more, so the search never goes back. The number of
+// moves is returned.
+fn fill(others: &[u8], last: &mut [u8], cores: &mut [u8]) -> u32
+    requires { ⌜ Filling (now others) (now last) (now cores) ⌝ }
+    ensures { λ r. ⌜ Filled (now (others .entry)) (now (last .entry)) (now (cores .entry)) (now (last .exit)) (now (cores .exit)) r ⌝ }
+{
+    let mut moves = 0;
     let mut j = 0;
     let mut k = 0;
     while j < others.len() {
         if cores[k] == 0 {
-            cores[k] = others[j];
+            let i = others[j];
+            cores[k] = i;
+            moves += remember(last, i, (k + 1) as u8);
             j += 1;
         }
         k += 1;
     }
+    moves
 }
 
 // `chosen` has the chosen tasks, highest priority first; `last` has each task's last core. What stood in `cores` before is lost.
-pub fn place(chosen: &[u8], last: &[u8], cores: &mut [u8])
+// The number of moves is returned.
+pub fn place(chosen: &[u8], last: &mut [u8], cores: &mut [u8]) -> u32
     requires { ⌜ Placing (now chosen) (now last) (now cores) ⌝ }
-    ensures { λ _. ⌜ now (cores .exit) ≡ place (length (now (cores .entry))) (now (last .entry)) (now (chosen .entry)) ⌝ }
+    ensures { λ r. ⌜ Placed (now (chosen .entry)) (now (last .entry)) (now (cores .entry)) (now (last .exit)) (now (cores .exit)) r ⌝ }
 {
     let mut others = [0u8; 32];
     let m = cores.len();
     clear(cores);
     let n = keep(chosen, last, cores, &mut others[..m]);
-    fill(&others[..n], cores);
+    fill(&others[..n], last, cores)
 }

@@ -23,8 +23,8 @@ pub fn slot(
     phase: &mut [u32],
     left: &mut [u32],
     last: &mut [u8],
-    done: &mut [u64],
-    dropped: &mut [u64],
+    done: &mut [u32],
+    dropped: &mut [u32],
     cores: &mut [u8],
 ) -> SlotCounts
     requires { ⌜ Ready (length (now cores)) (now c) (now t) (now ranks) (now phase) (now left) (now last) (now done) (now dropped) ⌝ }
@@ -34,8 +34,8 @@ pub fn slot(
     let m = cores.len();
     release(left, phase, c);
     let k = choose(ranks, left, &mut chosen[..m]);
-    place(&chosen[..k], last, cores);
-    let moves = work(cores, left, last, done);
+    let moves = place(&chosen[..k], last, cores);
+    work(&chosen[..k], left, done);
     let misses = end(t, phase, left, dropped);
     SlotCounts { moves, misses }
 }

@@ -18,8 +18,9 @@ use Rattle.rules.specs.Forms.{wellFormed}
 use Rattle.rules.specs.declared.kinds.CoreNumber.{CoreNumber}
 use Rattle.rules.specs.declared.kinds.TaskNumber.{TaskNumber}
 use Rattle.rules.specs.declared.kinds.Units.{Units}
-use Rattle.slot_laws.proofs.Forms.{Kept, formed-kept}
+use Rattle.slot_laws.proofs.Forms.{Kept, formed-kept, formed-clock}
 use Rattle.engine.specs.Step.{phasesIn}
+use Rattle.engine.proofs.Steps.{released-fits}
 use Rattle.tables.specs.Views as Tables
 use Rattle.tables.specs.declared.table.Row.{Row}
 use Rattle.machine.specs.Full.{Full}
@@ -77,15 +78,19 @@ module _ (s : State) (f : T (formed s)) where
         let fits = rw (rowOf-view (s .table) (full .rows) few-tasks i more) at (kept .taken .row (i + 1) (omega arith) in-table) in
         omega (arith, fits)
 
-    pub left-small : getD (s .left) i (units 0) .0 < 2 ^ 32
+    -- a task's left work, units done and units dropped are what was released of it, which is little
+    pub units-small : (getD (s .left) i (units 0) .0 < 2 ^ 32) × (getD (s .done) i (units 0) .0 < 2 ^ 32) × (getD (s .dropped) i (units 0) .0 < 2 ^ 32)
     unfolding view
-    left-small =
-        let fits = rw (rowOf-view (s .table) (full .rows) few-tasks i more) at (kept .taken .row (i + 1) (omega arith) in-table) in
-        let within =
-        rw (rowOf-view (s .table) (full .rows) few-tasks i more, at-viewed (λ x. x .0) (tasks s) (s .left) (omega (arith, full .left, few-tasks)) (units 0) i refl more)
-        at (kept .task (i + 1) (omega arith) in-table .fits)
+    units-small =
+        let column : (l : List Units) → length l ≡ tasksMax → at (viewed (λ (x : Units). x .0) (tasks s) l) (i + 1) ≡ getD l i (units 0) .0 =
+        λ l long. at-viewed (λ x. x .0) (tasks s) l (omega (arith, few-tasks)) (units 0) i refl more
         in
-        omega (arith, fits, within)
+        let books = kept .task (i + 1) (omega arith) in-table .books in
+        let few = released-fits kept (formed-clock (view s) formed-of) (i + 1) (omega arith) in-table in
+        let left-is = column (s .left) (full .left) in
+        let done-is = column (s .done) (full .done) in
+        let dropped-is = column (s .dropped) (full .dropped) in
+        (omega (arith, books, few, left-is), omega (arith, books, few, done-is), omega (arith, books, few, dropped-is))
 
 -- ---- taken apart: after i tasks
 
@@ -122,11 +127,12 @@ start s f full =
     }
 
 module _ {s : State} {c t ranks phase left last done dropped : List ℕ} {i : ℕ} (g : Parting s c t ranks phase left last done dropped i) where
-  pub turn : i < tasks s → {p l : ℕ} → p ≡ s .clock .0 % getD (s .table .rows) i Tables.zeroRow .t → l ≡ getD (s .left) i (units 0) .0
+  pub turn : i < tasks s → {p l d x : ℕ} → p ≡ s .clock .0 % getD (s .table .rows) i Tables.zeroRow .t → l ≡ getD (s .left) i (units 0) .0
+      → d ≡ getD (s .done) i (units 0) .0 → x ≡ getD (s .dropped) i (units 0) .0
       → Parting s (set c i (getD (s .table .rows) i Tables.zeroRow .c)) (set t i (getD (s .table .rows) i Tables.zeroRow .t))
       (set ranks i (getD (s .ranks) i (taskNumber 0) .0)) (set phase i p) (set left i l) (set last i (getD (s .last) i (coreNumber 0) .0))
-      (set done i (getD (s .done) i (units 0) .0)) (set dropped i (getD (s .dropped) i (units 0) .0)) (i + 1)
-  turn more ep el =
+      (set done i d) (set dropped i x) (i + 1)
+  turn more ep el ed ex =
       let few : i < tasksMax = omega (arith, g .few) in
       record {
         full = g .full;
@@ -138,8 +144,8 @@ module _ {s : State} {c t ranks phase left last done dropped : List ℕ} {i : �
         phases = rw ep (copy-turn _ (g .phases) Tables.zeroRow 0 few);
         lefts = rw el (copy-turn _ (g .lefts) (units 0) 0 few);
         lasts = copy-turn _ (g .lasts) (coreNumber 0) 0 few;
-        dones = copy-turn _ (g .dones) (units 0) 0 few;
-        drops = copy-turn _ (g .drops) (units 0) 0 few;
+        dones = rw ed (copy-turn _ (g .dones) (units 0) 0 few);
+        drops = rw ex (copy-turn _ (g .drops) (units 0) 0 few);
       }
 
   module _ (h : tasks s ≤ i) where
@@ -205,18 +211,17 @@ module _ {n : ℕ} {left last done dropped : List ℕ} where
       }
 
   module _ {lefts : List Units} {lasts : List CoreNumber} {dones drops : List Units} {i : ℕ} (g : Joining n left last done dropped lefts lasts dones drops i) where
-    pub join-turn : i < n → {l : ℕ} → l ≡ getD left i 0
-        → Joining n left last done dropped (set lefts i (units l)) (set lasts i (coreNumber (getD last i 0))) (set dones i (units (getD done i 0)))
-        (set drops i (units (getD dropped i 0))) (i + 1)
-    join-turn more el =
+    pub join-turn : i < n → {l d x : ℕ} → l ≡ getD left i 0 → d ≡ getD done i 0 → x ≡ getD dropped i 0
+        → Joining n left last done dropped (set lefts i (units l)) (set lasts i (coreNumber (getD last i 0))) (set dones i (units d)) (set drops i (units x)) (i + 1)
+    join-turn more el ed ex =
         let few : i < tasksMax = omega (arith, g .few) in
         record {
           few = g .few;
           within = omega arith;
           left-is = rw el (copy-turn units (g .left-is) 0 (units 0) few);
           last-is = copy-turn coreNumber (g .last-is) 0 (coreNumber 0) few;
-          done-is = copy-turn units (g .done-is) 0 (units 0) few;
-          dropped-is = copy-turn units (g .dropped-is) 0 (units 0) few;
+          done-is = rw ed (copy-turn units (g .done-is) 0 (units 0) few);
+          dropped-is = rw ex (copy-turn units (g .dropped-is) 0 (units 0) few);
         }
 
     module _ (h : n ≤ i) where

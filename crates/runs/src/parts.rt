@@ -19,8 +19,8 @@ pub struct Parts {
     pub phase: [u32; 64],
     pub left: [u32; 64],
     pub last: [u8; 64],
-    pub done: [u64; 64],
-    pub dropped: [u64; 64],
+    pub done: [u32; 64],
+    pub dropped: [u32; 64],
 }
 
 fn narrow(u: Units) -> u32
@@ -30,10 +30,10 @@ fn narrow(u: Units) -> u32
     u.0 as u32
 }
 
-fn wide(left: u32) -> u64
-    ensures { λ r. ⌜ r ≡ left ⌝ }
+fn wide(units: u32) -> u64
+    ensures { λ r. ⌜ r ≡ units ⌝ }
 {
-    left as u64
+    units as u64
 }
 
 fn phase_of(clock: u32, t: u32) -> u32
@@ -53,8 +53,8 @@ pub fn apart(s: State) -> Parts
     let mut phase = [0u32; 64];
     let mut left = [0u32; 64];
     let mut last = [0u8; 64];
-    let mut done = [0u64; 64];
-    let mut dropped = [0u64; 64];
+    let mut done = [0u32; 64];
+    let mut dropped = [0u32; 64];
     let table = s.table;
     let n = table.n.0 as usize;
     let clock = s.clock.0;
@@ -67,8 +67,8 @@ pub fn apart(s: State) -> Parts
         phase[i] = phase_of(clock, row.t);
         left[i] = narrow(s.left[i]);
         last[i] = s.last[i].0;
-        done[i] = s.done[i].0;
-        dropped[i] = s.dropped[i].0;
+        done[i] = narrow(s.done[i]);
+        dropped[i] = narrow(s.dropped[i]);
         i += 1;
     }
     Parts {
@@ -89,8 +89,8 @@ pub fn together(
     clock: u32,
     left: [u32; 64],
     last: [u8; 64],
-    done: [u64; 64],
-    dropped: [u64; 64],
+    done: [u32; 64],
+    dropped: [u32; 64],
     totals: Totals,
 ) -> State
     requires { ⌜ s .table .n .0 ≤ tasksMax ⌝ }
@@ -107,8 +107,8 @@ pub fn together(
     while i < n {
         lefts[i] = Units(wide(left[i]));
         lasts[i] = CoreNumber(last[i]);
-        dones[i] = Units(done[i]);
-        drops[i] = Units(dropped[i]);
+        dones[i] = Units(wide(done[i]));
+        drops[i] = Units(wide(dropped[i]));
         i += 1;
     }
     State {

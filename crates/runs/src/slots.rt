@@ -34,8 +34,8 @@ pub fn run_slots(
     phase: &mut [u32],
     left: &mut [u32],
     last: &mut [u8],
-    done: &mut [u64],
-    dropped: &mut [u64],
+    done: &mut [u32],
+    dropped: &mut [u32],
     cores: &mut [u8],
     out: &mut [u8],
 ) -> Totals

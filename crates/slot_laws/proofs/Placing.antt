@@ -288,13 +288,17 @@ module _ (m : ℕ) (last chosen : List ℕ) where
   kept-length = keep-stays kept .size ∙ length-replicate m 0
 
   -- a task that is placed after keeping stands on its last core
-  kept-stands : (i : ℕ) → 1 ≤ i → placed (keptOf m last chosen) i ≡ true → StandsAt i (keptOf m last chosen) (at last i)
-  kept-stands i real e =
+  pub kept-position : (i : ℕ) → 1 ≤ i → placed (keptOf m last chosen) i ≡ true → position i (keptOf m last chosen) ≡ at last i
+  kept-position i real e =
       let cores : List ℕ = keptOf m last chosen in
       let s : StandsAt i cores (position i cores) = position-stands i cores (placed-true cores i e) in
       let o : OnLast last cores = keep-last kept (record { stood = λ k h. absurd (omega (arith, at-zeros m k)) }) in
-      let there : at last i ≡ position i cores = ap (at last) (sym (s .here)) ∙ o .stood (position i cores) (omega (arith, s .here)) in
-      rw there s
+      sym (o .stood (position i cores) (omega (arith, s .here))) ∙ ap (at last) (s .here)
+
+  kept-stands : (i : ℕ) → 1 ≤ i → placed (keptOf m last chosen) i ≡ true → StandsAt i (keptOf m last chosen) (at last i)
+  kept-stands i real e =
+      let cores : List ℕ = keptOf m last chosen in
+      rw (← kept-position i real e) (position-stands i cores (placed-true cores i e))
 
 module _ {m : ℕ} {chosen : List ℕ} (c : Choice m chosen) (last : List ℕ) where
   -- there is a free core for each of the others
@@ -314,7 +318,7 @@ module _ {m : ℕ} {chosen : List ℕ} (c : Choice m chosen) (last : List ℕ) w
   filled = filling (othersOf m last chosen) (keptOf m last chosen) others-room
 
   -- each chosen task has kept a core or is one of the others
-  kept-or-other : (i : ℕ) → 1 ≤ i → count (eqb i) (keptOf m last chosen) + count (eqb i) (othersOf m last chosen) ≡ count (eqb i) chosen
+  pub kept-or-other : (i : ℕ) → 1 ≤ i → count (eqb i) (keptOf m last chosen) + count (eqb i) (othersOf m last chosen) ≡ count (eqb i) chosen
   kept-or-other i h =
       let cores : List ℕ = keptOf m last chosen in
       let none : _ = rw (ne-eqb i 0 (λ q. omega arith)) at (count-replicate m 0 i) in

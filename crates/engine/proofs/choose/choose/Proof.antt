@@ -1,10 +1,11 @@
 -- `engine::choose::choose` meets its contract: a walk along the ranks that keeps the tasks with left work.
 use Prim.Native.Nat.{_<_, _-_}
-use mathlib.Core.Path.{sym, _∙_}
-use mathlib.Core.Logic.{⊎-elim}
+use mathlib.Core.Path.{refl, _∙_}
 use native.Mathlib.Omega.{arith}
+use borrow.Author.Needs.{needs}
 use lib.ListN.{length}
-use Rattle.engine.proofs.Choosing.{Going, start, took, passed, no-rank, no-place}
+use Rattle.laws.proofs.Positions.{hit-le}
+use Rattle.engine.proofs.Choosing.{Going, start, turn, no-rank, no-place}
 use Rattle.engine.proofs.choose.choose.Statement.{statement}
 use Rattle.engine.proofs.choose.choose.Tie as tie
 
@@ -36,8 +37,11 @@ pending-requires c κs =
 slice-write-chosen : tie.Need-slice-write-chosen Inv-loop μ-loop
 slice-write-chosen c = omega arith
 
+one-requires : tie.Need-one-requires Inv-loop μ-loop
+one-requires c κs = search needs
+
 add-k : tie.Need-add-k Inv-loop μ-loop
-add-k c = omega arith
+add-k c = omega (arith, c .one .ensures, hit-le (c .before .pending .result))
 
 add-r : tie.Need-add-r Inv-loop μ-loop
 add-r c = omega arith
@@ -47,11 +51,8 @@ loop-less c = omega arith
 
 loop-again : tie.Need-loop-again Inv-loop μ-loop
 loop-again c =
-    let loop = c .before .before .before .before .before .loop in
-    ⊎-elim
-    (λ w. rw (w .1, w .2) (took _ _ _ (loop .inv) (omega arith) (omega arith) (sym (c .before .pending .ensures) ∙ w .0 .taken)))
-    (λ w. rw (w .1, w .2) (passed _ _ _ (loop .inv) (omega arith) (sym (c .before .pending .ensures) ∙ w .0 .left)))
-    (c .if2 .came)
+    rw (c .one .ensures, c .before .pending .ensures)
+    (turn _ _ _ (c .before .before .before .before .before .loop .inv) (omega arith) (omega arith) _ refl)
 
 same-length-2 : tie.Need-same-length-2 Inv-loop μ-loop
 same-length-2 c = c .before .loop .inv .places
@@ -71,6 +72,7 @@ choose-spec =
     shared-slice-read-i
     pending-requires
     slice-write-chosen
+    one-requires
     add-k
     add-r
     loop-less

@@ -6,6 +6,13 @@ use borrow.Author.Needs.{needs}
 use Rattle.engine.proofs.slot.slot.Statement.{statement}
 use Rattle.engine.proofs.slot.slot.Tie as tie
 
+-- after the choice: where the slot started, and where the jobs were released
+abbrev start : tie.After-choose → tie.Start
+start c = c .before .before .before .before .before .before .before .before .before .before .before .before .before .before .before .before .before
+
+abbrev freed : tie.After-choose → tie.After-release
+freed c = c .before .before .before .before .before
+
 release-requires : tie.Need-release-requires
 release-requires c κs = search needs
 
@@ -13,53 +20,45 @@ array-borrow-prefix-chosen : tie.Need-array-borrow-prefix-chosen
 array-borrow-prefix-chosen c = search needs
 
 slice-aggregate-choose : tie.Need-slice-aggregate-choose
-slice-aggregate-choose c =
-    let pre = c .before .before .before .before .before .before .before .before .before .before .before .before .before .before .before .before .pre in
-    sym (length-take-le _ _ (pre .few-cores))
+slice-aggregate-choose c = sym (length-take-le _ _ (c .before .before .before .before .before .before .before .before .before .before .before .before .before .before .before .before .pre .few-cores))
 
 choose-requires : tie.Need-choose-requires
-choose-requires c κs =
-    let pre = c .before .before .before .before .before .before .before .before .before .before .before .before .before .before .before .before .pre in
-    let release = c .before .before .before .before .release .ensures in
-    choosing pre release
+choose-requires c κs = choosing (c .before .before .before .before .before .before .before .before .before .before .before .before .before .before .before .before .pre) (c .before .before .before .before .release .ensures)
 
 array-share-prefix-chosen : tie.Need-array-share-prefix-chosen
 array-share-prefix-chosen c =
-    let pre = c .before .before .before .before .before .before .before .before .before .before .before .before .before .before .before .before .before .before .pre in
-    let release = c .before .before .before .before .before .before .release .ensures in
-    let choose = c .before .choose .ensures in
-    picked-fit pre release (length-take-le _ _ (pre .few-cores)) choose _
+    let chose = c .before in
+    picked-fit (start chose .pre) (freed chose .release .ensures) (length-take-le _ _ (start chose .pre .few-cores)) (chose .choose .ensures) _
 
 slice-aggregate-place : tie.Need-slice-aggregate-place
 slice-aggregate-place c =
-    let pre = c .before .before .before .before .before .before .before .before .before .before .before .before .before .before .before .before .before .before .before .pre in
-    let release = c .before .before .before .before .before .before .before .release .ensures in
-    let choose = c .before .before .choose .ensures in
-    sym (length-take-le _ _ (picked-fit pre release (length-take-le _ _ (pre .few-cores)) choose _))
+    let chose = c .before .before in
+    sym (length-take-le _ _ (picked-fit (start chose .pre) (freed chose .release .ensures) (length-take-le _ _ (start chose .pre .few-cores)) (chose .choose .ensures) _))
 
 place-requires : tie.Need-place-requires
 place-requires c κs =
-    let pre = c .before .before .before .before .before .before .before .before .before .before .before .before .before .before .before .before .before .before .before .before .before .pre in
-    let release = c .before .before .before .before .before .before .before .before .before .release .ensures in
-    let choose = c .before .before .before .before .choose .ensures in
-    placing pre release (length-take-le _ _ (pre .few-cores)) choose _ refl
+    let chose = c .before .before .before .before in
+    placing (start chose .pre) (freed chose .release .ensures) (length-take-le _ _ (start chose .pre .few-cores)) (chose .choose .ensures) _ refl
+
+array-share-prefix-chosen-2 : tie.Need-array-share-prefix-chosen-2
+array-share-prefix-chosen-2 c =
+    let chose = c .before .before .before .before .before .before .before .before .before in
+    picked-fit (start chose .pre) (freed chose .release .ensures) (length-take-le _ _ (start chose .pre .few-cores)) (chose .choose .ensures) _
+
+slice-aggregate-work : tie.Need-slice-aggregate-work
+slice-aggregate-work c =
+    let chose = c .before .before .before .before .before .before .before .before .before .before in
+    sym (length-take-le _ _ (picked-fit (start chose .pre) (freed chose .release .ensures) (length-take-le _ _ (start chose .pre .few-cores)) (chose .choose .ensures) _))
 
 work-requires : tie.Need-work-requires
 work-requires c κs =
-    let pre = c .before .before .before .before .before .before .before .before .before .before .before .before .before .before .before .before .before .before .before .before .before .before .before .before .before .before .before .before .pre in
-    let release = c .before .before .before .before .before .before .before .before .before .before .before .before .before .before .before .before .release .ensures in
-    let choose = c .before .before .before .before .before .before .before .before .before .before .before .choose .ensures in
-    let place = c .before .before .before .before .before .before .place .ensures in
-    to-work pre release (length-take-le _ _ (pre .few-cores)) choose _ place
+    let chose = c .before .before .before .before .before .before .before .before .before .before .before .before in
+    to-work (start chose .pre) (freed chose .release .ensures) (length-take-le _ _ (start chose .pre .few-cores)) (chose .choose .ensures) _
 
 end-requires : tie.Need-end-requires
 end-requires c κs =
-    let pre = c .before .before .before .before .before .before .before .before .before .before .before .before .before .before .before .before .before .before .before .before .before .before .before .before .before .before .before .before .before .before .before .before .before .before .before .before .before .before .pre in
-    let release = c .before .before .before .before .before .before .before .before .before .before .before .before .before .before .before .before .before .before .before .before .before .before .before .before .before .before .release .ensures in
-    let choose = c .before .before .before .before .before .before .before .before .before .before .before .before .before .before .before .before .before .before .before .before .before .choose .ensures in
-    let place = c .before .before .before .before .before .before .before .before .before .before .before .before .before .before .before .before .place .ensures in
-    let work = c .before .before .before .before .before .before .before .before .before .work .ensures in
-    to-end pre release (length-take-le _ _ (pre .few-cores)) choose _ place work
+    let chose = c .before .before .before .before .before .before .before .before .before .before .before .before .before .before .before .before .before .before .before .before in
+    to-end (start chose .pre) (freed chose .release .ensures) (length-take-le _ _ (start chose .pre .few-cores)) (chose .choose .ensures) _ refl (c .before .before .before .before .before .before .before .before .before .before .before .before .before .before .before .place .ensures) (c .before .before .before .before .before .before .before .work .ensures)
 
 same-length : tie.Need-same-length
 same-length c = search needs
@@ -81,13 +80,8 @@ same-length-6 c = search needs
 
 returns : tie.Need-returns
 returns c =
-    let pre = c .before .before .before .before .before .before .before .before .before .before .before .before .before .before .before .before .before .before .before .before .before .before .before .before .before .before .before .before .before .before .before .before .before .before .before .before .before .before .before .before .before .before .before .before .before .pre in
-    let release = c .before .before .before .before .before .before .before .before .before .before .before .before .before .before .before .before .before .before .before .before .before .before .before .before .before .before .before .before .before .before .before .before .before .release .ensures in
-    let choose = c .before .before .before .before .before .before .before .before .before .before .before .before .before .before .before .before .before .before .before .before .before .before .before .before .before .before .before .before .choose .ensures in
-    let place = c .before .before .before .before .before .before .before .before .before .before .before .before .before .before .before .before .before .before .before .before .before .before .before .place .ensures in
-    let work = c .before .before .before .before .before .before .before .before .before .before .before .before .before .before .before .before .work .ensures in
-    let end = c .before .before .before .before .before .before .end .ensures in
-    whole pre release (length-take-le _ _ (pre .few-cores)) choose _ place work end
+    let chose = c .before .before .before .before .before .before .before .before .before .before .before .before .before .before .before .before .before .before .before .before .before .before .before .before .before .before .before in
+    whole (start chose .pre) (freed chose .release .ensures) (length-take-le _ _ (start chose .pre .few-cores)) (chose .choose .ensures) _ refl (c .before .before .before .before .before .before .before .before .before .before .before .before .before .before .before .before .before .before .before .before .before .before .place .ensures) (c .before .before .before .before .before .before .before .before .before .before .before .before .before .before .work .ensures) (c .before .before .before .before .before .before .end .ensures)
 
 pub slot-spec : {M : Type 1} → statement M
 slot-spec =
@@ -100,6 +94,8 @@ slot-spec =
     array-share-prefix-chosen
     slice-aggregate-place
     place-requires
+    array-share-prefix-chosen-2
+    slice-aggregate-work
     work-requires
     end-requires
     same-length

@@ -1,7 +1,7 @@
 -- `runs::parts::apart` meets its contract: a walk along the tasks that puts each one's numbers into the arrays.
 use Prim.Native.Nat.{_-_}
 use Rattle.machine.proofs.Arrays.{state-full}
-use Rattle.runs.proofs.Parting.{Parting, period-low, left-small, start, turn, ended}
+use Rattle.runs.proofs.Parting.{Parting, period-low, units-small, start, turn, ended}
 use borrow.Author.Needs.{needs}
 use native.Mathlib.Omega.{arith}
 use Rattle.runs.proofs.parts.apart.Statement.{statement}
@@ -65,7 +65,7 @@ element-copy-out-narrow c = omega arith
 narrow-requires : tie.Need-narrow-requires Inv-loop μ-loop
 narrow-requires c κs =
     let loop = c .before .before .before in
-    left-small _ (loop .before .before .before .pre) (loop .before .loop .inv .full) (loop .before .loop .i) (loop .loop-test .taken)
+    units-small _ (loop .before .before .before .pre) (loop .before .loop .inv .full) (loop .before .loop .i) (loop .loop-test .taken) .0
 
 mul-left : tie.Need-mul-left Inv-loop μ-loop
 mul-left c = search needs
@@ -79,26 +79,36 @@ element-copy-out-last c = omega arith
 array-write-last : tie.Need-array-write-last Inv-loop μ-loop
 array-write-last c = omega arith
 
+mul-narrow-2 : tie.Need-mul-narrow-2 Inv-loop μ-loop
+mul-narrow-2 c = search needs
+
+element-copy-out-narrow-2 : tie.Need-element-copy-out-narrow-2 Inv-loop μ-loop
+element-copy-out-narrow-2 c = omega arith
+
+narrow-requires-2 : tie.Need-narrow-requires-2 Inv-loop μ-loop
+narrow-requires-2 c κs =
+    let loop = c .before .before .before .before .before in
+    units-small _ (loop .before .before .before .pre) (loop .before .loop .inv .full) (loop .before .loop .i) (loop .loop-test .taken) .1
+
 mul-done : tie.Need-mul-done Inv-loop μ-loop
 mul-done c = search needs
-
-element-copy-out-done : tie.Need-element-copy-out-done Inv-loop μ-loop
-element-copy-out-done c = omega arith
-
-mul-done-2 : tie.Need-mul-done-2 Inv-loop μ-loop
-mul-done-2 c = search needs
 
 array-write-done : tie.Need-array-write-done Inv-loop μ-loop
 array-write-done c = omega arith
 
+mul-narrow-3 : tie.Need-mul-narrow-3 Inv-loop μ-loop
+mul-narrow-3 c = search needs
+
+element-copy-out-narrow-3 : tie.Need-element-copy-out-narrow-3 Inv-loop μ-loop
+element-copy-out-narrow-3 c = omega arith
+
+narrow-requires-3 : tie.Need-narrow-requires-3 Inv-loop μ-loop
+narrow-requires-3 c κs =
+    let loop = c .before .before .before .before .before .before .before in
+    units-small _ (loop .before .before .before .pre) (loop .before .loop .inv .full) (loop .before .loop .i) (loop .loop-test .taken) .2
+
 mul-dropped : tie.Need-mul-dropped Inv-loop μ-loop
 mul-dropped c = search needs
-
-element-copy-out-dropped : tie.Need-element-copy-out-dropped Inv-loop μ-loop
-element-copy-out-dropped c = omega arith
-
-mul-dropped-2 : tie.Need-mul-dropped-2 Inv-loop μ-loop
-mul-dropped-2 c = search needs
 
 array-write-dropped : tie.Need-array-write-dropped Inv-loop μ-loop
 array-write-dropped c = omega arith
@@ -111,8 +121,8 @@ loop-less c = omega arith
 
 loop-again : tie.Need-loop-again Inv-loop μ-loop
 loop-again c =
-    let loop = c .before .before .before .before in
-    turn (loop .before .loop .inv) (loop .loop-test .taken) (c .before .before .phase-of .ensures) (c .narrow .ensures)
+    let loop = c .before .before .before .before .before .before .before .before in
+    turn (loop .before .loop .inv) (loop .loop-test .taken) (c .before .before .before .before .before .before .phase-of .ensures) (c .before .before .before .before .narrow .ensures) (c .before .before .narrow2 .ensures) (c .narrow3 .ensures)
 
 returns : tie.Need-returns Inv-loop μ-loop
 returns c = ended (c .before .loop .inv) (c .loop-test .left)
@@ -143,13 +153,15 @@ apart-spec =
     array-write-left
     element-copy-out-last
     array-write-last
+    mul-narrow-2
+    element-copy-out-narrow-2
+    narrow-requires-2
     mul-done
-    element-copy-out-done
-    mul-done-2
     array-write-done
+    mul-narrow-3
+    element-copy-out-narrow-3
+    narrow-requires-3
     mul-dropped
-    element-copy-out-dropped
-    mul-dropped-2
     array-write-dropped
     add-i
     loop-less

@@ -41,11 +41,14 @@ array-read-t34 c = omega arith
 array-set-from-lasts : tie.Need-array-set-from-lasts Inv-loop μ-loop
 array-set-from-lasts c = omega arith
 
-mul-t24 : tie.Need-mul-t24 Inv-loop μ-loop
-mul-t24 c = search needs
+mul-wide-2 : tie.Need-mul-wide-2 Inv-loop μ-loop
+mul-wide-2 c = search needs
 
-array-read-t23 : tie.Need-array-read-t23 Inv-loop μ-loop
-array-read-t23 c = omega arith
+array-read-wide-2 : tie.Need-array-read-wide-2 Inv-loop μ-loop
+array-read-wide-2 c = omega arith
+
+wide-requires-2 : tie.Need-wide-requires-2 Inv-loop μ-loop
+wide-requires-2 c κs = search needs
 
 mul-dones : tie.Need-mul-dones Inv-loop μ-loop
 mul-dones c = search needs
@@ -53,11 +56,14 @@ mul-dones c = search needs
 array-set-from-dones : tie.Need-array-set-from-dones Inv-loop μ-loop
 array-set-from-dones c = omega arith
 
-mul-t24-2 : tie.Need-mul-t24-2 Inv-loop μ-loop
-mul-t24-2 c = search needs
+mul-wide-3 : tie.Need-mul-wide-3 Inv-loop μ-loop
+mul-wide-3 c = search needs
 
-array-read-t23-2 : tie.Need-array-read-t23-2 Inv-loop μ-loop
-array-read-t23-2 c = omega arith
+array-read-wide-3 : tie.Need-array-read-wide-3 Inv-loop μ-loop
+array-read-wide-3 c = omega arith
+
+wide-requires-3 : tie.Need-wide-requires-3 Inv-loop μ-loop
+wide-requires-3 c κs = search needs
 
 mul-drops : tie.Need-mul-drops Inv-loop μ-loop
 mul-drops c = search needs
@@ -73,8 +79,8 @@ loop-less c = omega arith
 
 loop-again : tie.Need-loop-again Inv-loop μ-loop
 loop-again c =
-    let loop = c .before in
-    join-turn (loop .before .loop .inv) (loop .loop-test .taken) (c .wide .ensures)
+    let loop = c .before .before .before in
+    join-turn (loop .before .loop .inv) (loop .loop-test .taken) (c .before .before .wide .ensures) (c .before .wide2 .ensures) (c .wide3 .ensures)
 
 returns : tie.Need-returns Inv-loop μ-loop
 returns c = join-ended _ _ _ _ (c .before .loop .inv) (c .loop-test .left)
@@ -94,12 +100,14 @@ together-spec =
     array-set-from-lefts
     array-read-t34
     array-set-from-lasts
-    mul-t24
-    array-read-t23
+    mul-wide-2
+    array-read-wide-2
+    wide-requires-2
     mul-dones
     array-set-from-dones
-    mul-t24-2
-    array-read-t23-2
+    mul-wide-3
+    array-read-wide-3
+    wide-requires-3
     mul-drops
     array-set-from-drops
     add-i

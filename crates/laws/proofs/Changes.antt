@@ -1,39 +1,36 @@
--- One change at a time: a list that grows at its end, a line of values of which one is put anew, and a test that changes
--- for one number.
+-- One change at a time: a list of which one place is put anew, a line of values of which one is, and a test that changes for
+-- one number.
 use Prim.Native.Nat.{ℕ, zero, suc, _+_, _-_, _≤_, _<_}
 use mathlib.Core.Path.{_≡_, refl, sym, ap, _∙_}
 use mathlib.Core.Bool.{Bool, true, false, cond}
 use mathlib.Core.Logic.{⊎-elim}
-use mathlib.Core.List.{List, [], _∷_, _++_}
-use native.Mathlib.Nat.{eq-or-lt-of-le}
+use mathlib.Core.List.{List, [], _∷_}
+use native.Mathlib.Nat.{le-refl, eq-or-lt-of-le}
 use native.Mathlib.Numerals.{add-one}
 use native.Mathlib.Omega.{arith}
 use borrow.Author.Tests.{eq-eqb, ne-eqb, eqb-true, eqb-false}
 use lib.Dec.{eqb}
-use lib.ListN.{length, set, length-set}
+use lib.ListN.{length, getD, set, length-set}
+use lib.Seq.{take-set-le, getD-set-same}
 use Rattle.laws.specs.Lists.{count, numbers, each, at, position}
 use Rattle.laws.proofs.Tests.{decide}
 use Rattle.laws.proofs.Each.{length-each, at-each, ext-at, count-cong}
 use Rattle.laws.proofs.Filling.{count-next}
-use Rattle.laws.proofs.Positions.{count-append, at-set-same, at-set-other}
+use Rattle.laws.proofs.Positions.{count-take, position-first, at-set-same, at-set-other}
 
--- ---- a list with one number more at its end
+-- ---- a list of which one place is put anew
 
-pub count-grown : (p : ℕ → Bool) (l : List ℕ) (x : ℕ) → count p (l ++ (x ∷ [])) ≡ count p l + cond (p x) 1 0
-count-grown p l x = omega (arith, count-append p l (x ∷ []))
+-- any number but the one that stood there and the one put there stands first where it stood
+pub position-set : (i x : ℕ) (l : List ℕ) (k : ℕ) → (i ≡ getD l k 0 → ⊥) → (i ≡ x → ⊥) → position i (set l k x) ≡ position i l
+position-set i x [] k old new = refl
+position-set i x (y ∷ ys) zero old new = rw (ne-eqb i x new, ne-eqb i y old)
+position-set i x (y ∷ ys) (suc k) old new = rw (position-set i x ys k old new)
 
--- any other number stands first where it stood
-pub position-other : (i x : ℕ) (l : List ℕ) → (i ≡ x → ⊥) → position i (l ++ (x ∷ [])) ≡ position i l
-position-other i x [] n = rw (ne-eqb i x n)
-position-other i x (y ∷ ys) n = rw (position-other i x ys n)
-
--- a number that the list did not hold stands at its end
-pub position-new : (x : ℕ) (l : List ℕ) → count (eqb x) l ≡ 0 → position x (l ++ (x ∷ [])) ≡ suc (length l)
-position-new x [] none = rw (eq-eqb x x refl)
-position-new x (y ∷ ys) none =
-    ⊎-elim (λ (e : eqb x y ≡ true). absurd (omega (arith, rw e at none)))
-    (λ (e : eqb x y ≡ false). rw (e, position-new x ys (omega (arith, rw e at none))))
-    (decide (eqb x y))
+-- a number that the list did not hold stands where it is put
+pub position-put : (x : ℕ) (l : List ℕ) (k : ℕ) → count (eqb x) l ≡ 0 → k < length l → position x (set l k x) ≡ suc k
+position-put x l k none more =
+    position-first x (set l k x) k (omega (arith, length-set l k x)) (rw (take-set-le k l k x (le-refl k)) (omega (arith, count-take (eqb x) k l)))
+    (getD-set-same l k x 0 more)
 
 -- ---- the value at one number x from 1 to n
 

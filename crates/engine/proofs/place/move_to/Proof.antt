@@ -1,9 +1,9 @@
--- `engine::work::move_to` meets its contract.
+-- `engine::place::move_to` meets its contract.
 use mathlib.Core.Bool.{and-false}
 use borrow.Author.Tests.{eq-eqb, ne-eqb, lt-ltb}
 use native.Mathlib.Omega.{arith}
-use Rattle.engine.proofs.work.move_to.Statement.{statement}
-use Rattle.engine.proofs.work.move_to.Tie as tie
+use Rattle.engine.proofs.place.move_to.Statement.{statement}
+use Rattle.engine.proofs.place.move_to.Tie as tie
 
 returns : tie.Need-returns
 returns c = rw (eq-eqb _ _ (c .if1 .taken), and-false)
