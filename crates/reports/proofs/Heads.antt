@@ -7,23 +7,26 @@ use lib.Dec.{T}
 use lib.ListN.{length, take, drop, length-append}
 use Rattle.rules.specs.Limits.{tasksMax}
 use Rattle.rules.specs.Refusals.{settle}
+use Rattle.rules.specs.Repeat.{repeatLength}
 use Rattle.rules.specs.Runs.{verdictLine, orderLine}
 use Rattle.rules.specs.Tables as Rules
 use Rattle.rules.specs.Tables.{size, accepts}
-use Rattle.rules.specs.Verdicts.{order}
+use Rattle.rules.specs.Verdicts.{verdict, heavyCount, order}
 use Rattle.rules.specs.declared.refusal.Refusal.{Refusal}
+use Rattle.rules.specs.declared.verdict.Verdict.{Verdict}
 use Rattle.priority_laws.proofs.Order.{order-length}
 use Rattle.reading_laws.proofs.Tests.{accepts-iff}
 use Rattle.reading_laws.proofs.Lays.{lay-front}
 use Rattle.tables.specs.Views.{view}
 use Rattle.tables.specs.declared.table.Table.{Table}
 use Rattle.tables.proofs.Views.{length-view}
+use Rattle.verdicts.specs.Lines.{verdictFrame}
 use Rattle.verdicts.specs.Structs.{structTests, judgementOf, verdictAnswer, packRanks, priorityAnswer}
 use Rattle.verdicts.specs.declared.table.Judgement.{Judgement}
 use Rattle.verdicts.specs.declared.table.PriorityAnswer.{PriorityAnswer}
 use Rattle.verdicts.specs.declared.table.VerdictAnswer.{VerdictAnswer}
 use Rattle.verdicts.specs.declared.table.VerdictAnswer.the-variants.{Judged, Refused}
-use Rattle.verdicts.proofs.Accepted.{verdict-accepted, priority-accepted, plain-packed}
+use Rattle.verdicts.proofs.Accepted.{verdict-accepted, priority-accepted, verdict-line, plain-packed}
 use Rattle.verdicts.proofs.Laying.{Laid, length-verdict, length-orderLine}
 use Rattle.machine.specs.Tables.{Opened}
 use Rattle.reports.specs.Heads.{head, headLength}
@@ -65,6 +68,15 @@ module _ (t : Table) (o : Opened t) where
 
     pub never-refused : {r : Refusal} {l : ℕ} → a ≡ Refused r l → ⊥
     never-refused e = let z : _≡_ {A = ℕ} 0 1 = cc judged in omega arith
+
+  -- the frame of its numbers is the table's line
+  pub judgement-written : (rest : List ℕ) {now : List ℕ} {v : Verdict} {heavy h : ℕ}
+      → now ≡ verdictFrame v heavy h ++ rest
+      → v ≡ verdict (view t)
+      → heavy ≡ heavyCount (view t)
+      → h ≡ repeatLength (view t .rows)
+      → now ≡ verdictLine (view t) ++ rest
+  judgement-written rest e ev en eh = e ∙ rw (ev, en, eh, verdict-line (view t))
 
   ordered : priorityAnswer (settle (structTests t) (order (view t))) .ranks ≡ packRanks (order (view t))
   ordered = ap (λ (p : PriorityAnswer). p .ranks) (rw (o .formed) at (priority-accepted (view t) accepted))

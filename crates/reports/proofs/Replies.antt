@@ -99,5 +99,6 @@ module _ {a : TableAnswer} (w : Answered a) where
     pub refused-length : length (replyTo a) ≡ 9
     refused-length = ap length refused-reply ∙ length-refusal (numberOf r) l
 
-    pub refused-written : (out : List ℕ) {n : ℕ} → n ≡ numberOf r → frame refusal (n ∷ l ∷ []) ++ drop 9 out ≡ replyTo a ++ drop (length (replyTo a)) out
-    refused-written out e = ap (λ (k : ℕ). frame refusal (k ∷ l ∷ []) ++ drop 9 out) e ∙ at-front out refused-reply (length-refusal (numberOf r) l)
+    pub refused-written : (out : List ℕ) {now : List ℕ} {n k : ℕ} → now ≡ frame refusal (n ∷ k ∷ []) ++ drop 9 out → n ≡ numberOf r → k ≡ l
+        → now ≡ replyTo a ++ drop (length (replyTo a)) out
+    refused-written out e en ek = e ∙ rw (en, ek) (at-front out refused-reply (length-refusal (numberOf r) l))

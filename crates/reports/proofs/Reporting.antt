@@ -35,8 +35,8 @@ use Rattle.reports.proofs.Replies.{length-refusal, reply-answer}
 
 -- ---- the start of the input
 
-pub start-is : (input : List ℕ) {k : ℕ} → k ≡ min (length input) inputMax → take k input ≡ take inputMax input
-start-is input {k} e =
+pub start-is : (input : List ℕ) (k : ℕ) → k ≡ min (length input) inputMax → take k input ≡ take inputMax input
+start-is input k e =
     ⊎-elim (λ (l : ltb inputMax (length input) ≡ true).
     let cut : k ≡ inputMax = omega (arith, ltb-true inputMax (length input) l) in
     ap (λ (n : ℕ). take n input) cut)

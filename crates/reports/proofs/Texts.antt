@@ -1,5 +1,5 @@
 -- The text of an accepted table: the slots and the totals after its head, and how long it is.
-use Prim.Native.Nat.{ℕ, _+_, _-_, _*_, _≤_, min}
+use Prim.Native.Nat.{ℕ, _+_, _-_, _*_, _≤_, _<_}
 use mathlib.Core.Path.{_≡_, refl, sym, ap, _∙_}
 use mathlib.Core.List.{List, _++_, append-assoc}
 use native.Mathlib.Omega.{arith}
@@ -54,7 +54,7 @@ module _ (rows : List Row) {a : RepeatAnswer} (is : a ≡ repeatOf (repeatLength
   found {h} e = ap (λ (x : Repeat). x .0) (sym (repeat-taken (repeatLength rows) h (sym is ∙ e) .1))
 
   -- H is above its bound
-  pub above : a ≡ Outside → slotsMax ≡ min (repeatLength rows) slotsMax
+  pub above : a ≡ Outside → slotsMax < repeatLength rows
   above e = omega (arith, repeat-refused (repeatLength rows) (repeat-pos rows) (sym is ∙ e))
 
 -- ---- how long the text is
@@ -126,7 +126,7 @@ module _ (tbl : Rules.Table) (a : T (accepts tbl)) (count : ℕ) (few : count �
         ∙ ap (λ (x : State). runAnswer x count out 0) started
         ∙ run-taken (fresh tbl) (fresh-formed tbl a) out 0 count (omega arith) (omega arith)
 
-    end-state : r .state ≡ pack (after count (fresh tbl))
+    pub end-state : r .state ≡ pack (after count (fresh tbl))
     end-state = ap (λ (x : RunEnd). x .answer .state) ended
 
     -- its frames end where the totals begin
@@ -137,17 +137,18 @@ module _ (tbl : Rules.Table) (a : T (accepts tbl)) (count : ℕ) (few : count �
       end-length : length out′ ≡ length out
       end-length = ap length (end-lines .whole) ∙ length-lay out 0 slots (omega (arith, length-slots))
 
-      -- and the totals come right after them, through the lent tail
-      pub run-written : {w : WriteAnswer} {tail : List ℕ}
-          → made w tail ≡ wrote 51 (midOf at (length out′ - at) out′) (asked (r .state) (λ x. writeTotals x (midOf at (length out′ - at) out′) 0))
+      -- and the totals of the state at its end come right after them, through the lent tail
+      pub run-written : {w : WriteAnswer} {tail : List ℕ} {s′ : State}
+          → made w tail ≡ wrote 51 (midOf at (length out′ - at) out′) (asked s′ (λ x. writeTotals x (midOf at (length out′ - at) out′) 0))
+          → s′ ≡ pack (after count (fresh tbl))
           → putMid at (length out′ - at) out′ tail ≡ runLines tbl count ++ drop (runLength (tbl .m) count) out
-      run-written {w} {tail} e =
+      run-written {w} {tail} e end-is =
           let mid : List ℕ = midOf at (length out′ - at) out′ in
           let line : List ℕ = totalsLine (after count (fresh tbl)) in
           let fits : 0 + 51 ≤ length mid = simp (length-take, length-drop) (omega (arith, end-length)) in
           let laid : made w tail ≡ made (Written 51) (lay mid 0 line) =
           e
-          ∙ ap (λ (x : State). wrote 51 mid (asked x (λ y. writeTotals y mid 0))) end-state
+          ∙ ap (λ (x : State). wrote 51 mid (asked x (λ y. writeTotals y mid 0))) end-is
           ∙ totals-taken (after count (fresh tbl)) formed-after mid 0 fits
           in
           let at-front : tail ≡ line ++ drop 51 mid =

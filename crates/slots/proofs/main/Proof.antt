@@ -1,5 +1,6 @@
 -- `slots::main` meets its contract: what is written out is the part of the buffer that holds the text.
 use mathlib.Core.Path.{sym}
+use native.Mathlib.Omega.{arith}
 use lib.Seq.{length-take-le}
 use borrow.Author.Needs.{needs}
 use Rattle.reports.proofs.Reporting.{printed-inside}
@@ -22,7 +23,7 @@ slice-aggregate-text-2 : tie.Need-slice-aggregate-text-2
 slice-aggregate-text-2 c = search needs
 
 text-requires : tie.Need-text-requires
-text-requires c κs = search needs
+text-requires c κs = omega arith
 
 array-share-prefix-out : tie.Need-array-share-prefix-out
 array-share-prefix-out c = printed-inside (c .before .text .ensures)

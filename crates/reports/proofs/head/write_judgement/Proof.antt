@@ -1,15 +1,11 @@
 -- `reports::head::write_judgement` meets its contract: an accepted table is judged, and the frame of its judgement is its line.
-use Prim.Native.Nat.{ℕ}
-use mathlib.Core.Path.{ap, _∙_}
-use mathlib.Core.List.{List, _++_}
+use mathlib.Core.Path.{ap}
+use native.Mathlib.Omega.{arith}
 use denote.Ref.{now}
 use lib.ListN.{drop}
 use borrow.Author.Needs.{needs}
-use Rattle.tables.specs.Views.{view}
-use Rattle.verdicts.specs.Lines.{verdictFrame}
 use Rattle.verdicts.specs.declared.table.Judgement.{Judgement}
-use Rattle.verdicts.proofs.Accepted.{verdict-line}
-use Rattle.reports.proofs.Heads.{judged-is, never-refused}
+use Rattle.reports.proofs.Heads.{judged-is, never-refused, judgement-written}
 use Rattle.reports.proofs.head.write_judgement.Statement.{statement}
 use Rattle.reports.proofs.head.write_judgement.Tie as tie
 
@@ -40,10 +36,10 @@ returns-2 c =
     let known = written .before .before .before in
     let judged = known .before .before in
     let start = judged .before .before in
-    let rest = drop 15 (now (start .args .out)) in
-    written .write-verdict .ensures
-    ∙ ap (λ (j : Judgement). verdictFrame (j .verdict) (j .heavy) (j .repeat .0) ++ rest) (judged-is (start .args .t) (start .pre .opened) (judged .verdict .ensures) (known .j .given .1))
-    ∙ ap (λ (l : List ℕ). l ++ rest) (verdict-line (view (start .args .t)))
+    let is = judged-is (start .args .t) (start .pre .opened) (judged .verdict .ensures) (known .j .given .1) in
+    judgement-written (start .args .t) (start .pre .opened) (drop 15 (now (start .args .out))) (written .write-verdict .ensures) (ap (λ (j : Judgement). j .verdict) is)
+    (omega (arith, ap (λ (j : Judgement). j .heavy) is))
+    (omega (arith, ap (λ (j : Judgement). j .repeat .0) is))
 
 pub write-judgement-spec : {M : Type 1} → statement M
 write-judgement-spec =

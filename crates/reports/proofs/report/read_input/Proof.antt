@@ -24,7 +24,7 @@ read-file-requires c κs = search needs
 returns : tie.Need-returns
 returns c =
     let cut = c .before .before in
-    c .read-file .ensures ∙ ap (λ (s : List ℕ). tableAnswer (readFile s)) (start-is (now (cut .before .before .args .input)) (cut .least .ensures))
+    c .read-file .ensures ∙ ap (λ (s : List ℕ). tableAnswer (readFile s)) (start-is (now (cut .before .before .args .input)) (cut .least .result) (omega (arith, cut .least .ensures)))
 
 pub read-input-spec : {M : Type 1} → statement M
 read-input-spec = tie.close (tie.spec least-requires slice-aggregate-read-file read-file-requires returns)

@@ -33,7 +33,7 @@ write-refusal-requires c κs =
     let start = known .before .before .before in
     let told = known .outcome .given .1 in
     let answered = start .pre .answered in
-    (omega (arith, refused-length answered told, start .pre .room), refused-fits answered told)
+    (omega (arith, refused-length answered told, start .pre .room), omega (arith, refused-fits answered told))
 
 same-length : tie.Need-same-length
 same-length c = search needs
@@ -54,7 +54,7 @@ returns-2 c =
     let numbered = written .before in
     let known = numbered .before .before .before in
     let start = known .before .before .before in
-    written .write-refusal .ensures ∙ refused-written (start .pre .answered) (known .outcome .given .1) (now (start .args .out)) (numbered .number .ensures)
+    refused-written (start .pre .answered) (known .outcome .given .1) (now (start .args .out)) (written .write-refusal .ensures) (numbered .number .ensures) (omega arith)
 
 pub write-reply-spec : {M : Type 1} → statement M
 write-reply-spec =

@@ -18,7 +18,7 @@ enum-told c = search needs
 returns : tie.Need-returns
 returns c =
     let asked = c .before .before in
-    above (view (asked .before .args .t) .rows) (asked .repeat-length .ensures) (c .enum-told .given .1)
+    omega (arith, above (view (asked .before .args .t) .rows) (asked .repeat-length .ensures) (c .enum-told .given .1))
 
 returns-2 : tie.Need-returns-2
 returns-2 c =

@@ -6,10 +6,13 @@ use denote.Ref.{now}
 use lib.Dec.{T}
 use borrow.Author.Needs.{needs}
 use Rattle.rules.specs.Tables.{accepts}
+use Rattle.rules.specs.States.{fresh}
+use Rattle.rules.specs.Runs.{after}
 use Rattle.tables.specs.Views.{view}
+use Rattle.machine.specs.Views.{pack}
 use Rattle.runs.specs.Slots.{frameLength}
 use Rattle.reports.proofs.Heads.{accepted}
-use Rattle.reports.proofs.Texts.{cores-few, slots-end, run-written}
+use Rattle.reports.proofs.Texts.{cores-few, slots-end, end-state, run-written}
 use Rattle.reports.proofs.table.write_run.Statement.{statement}
 use Rattle.reports.proofs.table.write_run.Tie as tie
 
@@ -27,6 +30,12 @@ module _ (c : tie.After-run) where
   ends : sized .slots-length .result ≡ start .args .count * frameLength (view (start .args .t) .m)
   unfolding sized start
   ends = slots-end (start .args .t) (start .pre .opened) (start .args .count) (sized .slots-length .ensures)
+
+  at-end : c .run .result .state ≡ pack (after (start .args .count) (fresh (view (start .args .t))))
+  unfolding sized start
+  at-end =
+      end-state (view (start .args .t)) fine (start .args .count) (start .pre .few) (now (start .args .out)) (start .pre .room) (c .before .before .fresh .ensures)
+      (c .run .ensures)
 
 slots-length-requires : tie.Need-slots-length-requires
 slots-length-requires c κs = cores-few (c .before .args .t) (c .before .pre .opened)
@@ -68,6 +77,7 @@ returns c =
     (ran .run .ensures)
     (ends ran)
     (totalled .write-totals .ensures)
+    (at-end ran)
 
 pub write-run-spec : {M : Type 1} → statement M
 write-run-spec =
