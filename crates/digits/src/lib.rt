@@ -1,7 +1,9 @@
 // Lowercase hexadecimal digits and big-endian fields of them: read out of a text, and written into one.
 ghost use mathlib.Core.Path.{_≡_};
+ghost use mathlib.Core.Bool.{cond};
 ghost use mathlib.Core.List.{_++_};
 ghost use Prim.Native.Nat.{_%_, _≤_, _<_};
+ghost use lib.Dec.{ltb};
 ghost use lib.ListN.{length, take, drop};
 ghost use Rattle.laws.specs.Digits.{digit as digitOf, digitValue, value, field};
 ghost use Rattle.digits.specs.Answers.{digitAnswer, fieldAnswer, Within};
@@ -18,12 +20,19 @@ pub enum FieldAnswer {
     NoDigit,
 }
 
+// How far a digit lies above the number that it stands for: a value and no branch where digits are written.
+fn above(v: u8) -> u8
+    ensures { λ r. ⌜ r ≡ cond (ltb v 10) 48 87 ⌝ }
+{
+    if v < 10 { 48 } else { 87 }
+}
+
 // The digit for a number below 16.
 pub fn digit(v: u8) -> u8
     requires { ⌜ v < 16 ⌝ }
     ensures { λ r. ⌜ r ≡ digitOf v ⌝ }
 {
-    if v < 10 { 48 + v } else { 87 + v }
+    v + above(v)
 }
 
 // The number that a byte stands for, if it is a digit.

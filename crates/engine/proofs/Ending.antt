@@ -16,6 +16,11 @@ cond-le : (b : Bool) (x : ℕ) → cond b x 0 ≤ x
 cond-le true x = le-refl x
 cond-le false x = zero-le
 
+-- some work is lost where the deadline falls on the slot's end and some is left
+lost-some : (b : Bool) (x : ℕ) → ltb 0 (cond b x 0) ≡ (b && ltb 0 x)
+lost-some true x = refl
+lost-some false x = refl
+
 module _ (t phase left dropped : List ℕ) where
   abbrev phaseOf : ℕ → ℕ
   phaseOf i = nextPhase (at phase i) (at t i)
@@ -76,19 +81,19 @@ module _ (t phase left dropped : List ℕ) where
         pub drops-fit : (p : ℕ) {d : ℕ} → d ≡ cond (eqb p 0) (getD left′ i 0) 0 → getD dropped′ i 0 + d < 2 ^ 32
         drops-fit p ed = omega (arith, e .fits i more, dropped-here, left-here, cond-le (eqb p 0) (getD left′ i 0))
 
-        pub misses-fit : (p : ℕ) {v : ℕ} → v ≡ cond (eqb p 0 && ltb 0 (getD left′ i 0)) 1 0 → misses + v < 2 ^ 32
-        misses-fit p ev = omega (arith, e .few, cond-le (eqb p 0 && ltb 0 (getD left′ i 0)) 1)
+        pub misses-fit : (d : ℕ) {v : ℕ} → v ≡ cond (ltb 0 d) 1 0 → misses + v < 2 ^ 32
+        misses-fit d ev = omega (arith, e .few, cond-le (ltb 0 d) 1)
 
         -- one task's turn, with the values that the loop computes for it
         pub turn : {p u d v : ℕ} → p ≡ nextPhase (getD phase′ i 0) (getD t i 0) → u ≡ cond (eqb p 0) 0 (getD left′ i 0)
-            → d ≡ cond (eqb p 0) (getD left′ i 0) 0 → v ≡ cond (eqb p 0 && ltb 0 (getD left′ i 0)) 1 0
+            → d ≡ cond (eqb p 0) (getD left′ i 0) 0 → v ≡ cond (ltb 0 d) 1 0
             → Going (set phase′ i p) (set left′ i u) (set dropped′ i (getD dropped′ i 0 + d)) (misses + v) (i + 1)
         turn {p} {u} {d} {v} ep eu ed ev =
             let p-more : i < length phase = omega (arith, e .phase-size) in
             let d-more : i < length dropped = omega (arith, e .dropped-size) in
             let next : p ≡ phaseOf (i + 1) = ep ∙ rw (phase-here, at-next phase i, at-next t i) in
             let units : getD left′ i 0 ≡ at left (i + 1) = left-here ∙ sym (at-next left i) in
-            let miss : v ≡ cond (missOf (i + 1)) 1 0 = ev ∙ rw (next, units) in
+            let miss : v ≡ cond (missOf (i + 1)) 1 0 = ev ∙ rw (ed, lost-some (eqb p 0) (getD left′ i 0), next, units) in
             record {
               within = omega arith;
               phases = filled-turn phaseOf phase i p-more (g .phases) next;

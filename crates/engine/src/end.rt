@@ -1,6 +1,6 @@
 // A slot ends: a task whose deadline falls there and that has left work misses, and that work is dropped.
 ghost use mathlib.Core.Path.{_≡_};
-ghost use mathlib.Core.Bool.{cond, _&&_};
+ghost use mathlib.Core.Bool.{cond};
 ghost use Prim.Native.Nat.{_<_};
 ghost use lib.Dec.{eqb, ltb};
 ghost use Rattle.engine.specs.Ends.{nextPhase, Ending, Ended};
@@ -25,14 +25,10 @@ fn lost(next: u32, left: u32) -> u32
     if next == 0 { left } else { 0 }
 }
 
-fn missed(next: u32, left: u32) -> u32
-    ensures { λ r. ⌜ r ≡ cond (eqb next 0 && ltb 0 left) 1 0 ⌝ }
+fn missed(late: u32) -> u32
+    ensures { λ r. ⌜ r ≡ cond (ltb 0 late) 1 0 ⌝ }
 {
-    if next == 0 {
-        if 0 < left { 1 } else { 0 }
-    } else {
-        0
-    }
+    if 0 < late { 1 } else { 0 }
 }
 
 // The number of misses is returned.
@@ -47,8 +43,9 @@ pub fn end(t: &[u32], phase: &mut [u32], left: &mut [u32], dropped: &mut [u32]) 
         let units = left[i];
         phase[i] = next;
         left[i] = kept(next, units);
-        dropped[i] = dropped[i] + lost(next, units);
-        misses += missed(next, units);
+        let late = lost(next, units);
+        dropped[i] = dropped[i] + late;
+        misses += missed(late);
         i += 1;
     }
     misses

@@ -55,20 +55,20 @@ mul-left c = search needs
 slice-write-left : tie.Need-slice-write-left Inv-loop μ-loop
 slice-write-left c = omega arith
 
+lost-requires : tie.Need-lost-requires Inv-loop μ-loop
+lost-requires c κs = search needs
+
 mul-dropped : tie.Need-mul-dropped Inv-loop μ-loop
 mul-dropped c = search needs
 
 slice-read-dropped : tie.Need-slice-read-dropped Inv-loop μ-loop
 slice-read-dropped c = omega arith
 
-lost-requires : tie.Need-lost-requires Inv-loop μ-loop
-lost-requires c κs = search needs
-
 add-dropped : tie.Need-add-dropped Inv-loop μ-loop
 add-dropped c =
     let start = c .before .before .before .before .before .before .before .before .before .before .before .before .before in
     let loop = c .before .before .before .before .before .before .before .before .loop in
-    record { fits = drops-fit _ _ _ _ (start .pre) (loop .inv) (omega arith) (c .before .before .before .before .next-phase .result) (c .lost .ensures) }
+    record { fits = drops-fit _ _ _ _ (start .pre) (loop .inv) (omega arith) (c .before .before .before .before .next-phase .result) (c .before .lost .ensures) }
 
 mul-dropped-2 : tie.Need-mul-dropped-2 Inv-loop μ-loop
 mul-dropped-2 c = search needs
@@ -83,7 +83,7 @@ add-misses : tie.Need-add-misses Inv-loop μ-loop
 add-misses c =
     let start = c .before .before .before .before .before .before .before .before .before .before .before .before .before .before in
     let loop = c .before .before .before .before .before .before .before .before .before .loop in
-    record { fits = misses-fit _ _ _ _ (start .pre) (loop .inv) (omega arith) (c .before .before .before .before .before .next-phase .result) (c .missed .ensures) }
+    record { fits = misses-fit _ _ _ _ (start .pre) (loop .inv) (omega arith) (c .before .before .lost .result) (c .missed .ensures) }
 
 add-i : tie.Need-add-i Inv-loop μ-loop
 add-i c = omega arith
@@ -98,7 +98,7 @@ loop-again c =
     turn _ _ _ _ (start .pre) (loop .inv) (omega arith)
     (c .before .before .before .before .before .next-phase .ensures)
     (c .before .before .before .kept .ensures)
-    (c .before .lost .ensures)
+    (c .before .before .lost .ensures)
     (c .missed .ensures)
 
 same-length : tie.Need-same-length Inv-loop μ-loop
@@ -132,9 +132,9 @@ end-spec =
     kept-requires
     mul-left
     slice-write-left
+    lost-requires
     mul-dropped
     slice-read-dropped
-    lost-requires
     add-dropped
     mul-dropped-2
     slice-write-dropped
