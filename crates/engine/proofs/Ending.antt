@@ -21,12 +21,12 @@ lost-some : (b : Bool) (x : ℕ) → ltb 0 (cond b x 0) ≡ (b && ltb 0 x)
 lost-some true x = refl
 lost-some false x = refl
 
-module _ (t phase left dropped : List ℕ) where
+module _ (c t phase left dropped : List ℕ) where
   abbrev phaseOf : ℕ → ℕ
   phaseOf i = nextPhase (at phase i) (at t i)
 
   abbrev leftOf : ℕ → ℕ
-  leftOf i = cond (ending phase t i) 0 (at left i)
+  leftOf i = cond (ending phase t i) (at c i) (at left i)
 
   abbrev droppedOf : ℕ → ℕ
   droppedOf i = at dropped i + cond (ending phase t i) (at left i) 0
@@ -46,7 +46,7 @@ module _ (t phase left dropped : List ℕ) where
     pub left-size : length left′ ≡ length left
     pub dropped-size : length dropped′ ≡ length left
 
-  module _ (e : Ending t phase left dropped) where
+  module _ (e : Ending c t phase left dropped) where
     -- before the first task
     pub start : Going phase left dropped 0 0
     start =
@@ -85,7 +85,7 @@ module _ (t phase left dropped : List ℕ) where
         misses-fit d ev = omega (arith, e .few, cond-le (ltb 0 d) 1)
 
         -- one task's turn, with the values that the loop computes for it
-        pub turn : {p u d v : ℕ} → p ≡ nextPhase (getD phase′ i 0) (getD t i 0) → u ≡ cond (eqb p 0) 0 (getD left′ i 0)
+        pub turn : {p u d v : ℕ} → p ≡ nextPhase (getD phase′ i 0) (getD t i 0) → u ≡ cond (eqb p 0) (getD c i 0) (getD left′ i 0)
             → d ≡ cond (eqb p 0) (getD left′ i 0) 0 → v ≡ cond (ltb 0 d) 1 0
             → Going (set phase′ i p) (set left′ i u) (set dropped′ i (getD dropped′ i 0 + d)) (misses + v) (i + 1)
         turn {p} {u} {d} {v} ep eu ed ev =
@@ -97,7 +97,7 @@ module _ (t phase left dropped : List ℕ) where
             record {
               within = omega arith;
               phases = filled-turn phaseOf phase i p-more (g .phases) next;
-              lefts = filled-turn leftOf left i more (g .lefts) (eu ∙ rw (next, units));
+              lefts = filled-turn leftOf left i more (g .lefts) (eu ∙ rw (next, units, at-next c i));
               drops = filled-turn droppedOf dropped i d-more (g .drops) (rw (ed, next, units, dropped-here, at-next dropped i));
               number = rw (g .number, miss) (sym (count-next missOf i));
               small = omega (arith, miss, cond-le (missOf (i + 1)) 1);
@@ -107,7 +107,7 @@ module _ (t phase left dropped : List ℕ) where
             }
 
       -- after the last task
-      pub ended : length left ≤ i → Ended t phase left dropped phase′ left′ dropped′ misses
+      pub ended : length left ≤ i → Ended c t phase left dropped phase′ left′ dropped′ misses
       ended h =
           let at-end : i ≡ length left = omega (arith, g .within) in
           record {

@@ -30,11 +30,6 @@ at-positive l zero h = absurd (not-suc-le-zero h)
 at-positive l (suc i) h =
     (omega arith, elim (decLe (suc i) (length l)) [ yes within ↦ within | no beyond ↦ absurd (omega (arith, List·getD-eq-default l 0 {n = i} (omega arith))) ])
 
--- the lesser of two, or the greater
-cond-below : (b : Bool) {x y : ℕ} → x ≤ y → cond b y x ≤ y
-cond-below true {y = y} h = le-refl y
-cond-below false h = h
-
 -- no task is numbered 0
 named-real : {n : ℕ} {l : List ℕ} → Named n l → count (eqb 0) l ≡ 0
 named-real {l = l} named =
@@ -45,33 +40,21 @@ named-real {l = l} named =
     (eq-or-lt-of-le zero-le)
 
 module _ {m : ℕ} {c t ranks phase left last done dropped : List ℕ} (r : Ready m c t ranks phase left last done dropped) where
-  abbrev units : List ℕ
-  units = releasedOn c phase left
-
   abbrev chosen : List ℕ
-  chosen = choose m ranks units
+  chosen = choose m ranks left
 
   abbrev cores : List ℕ
-  cores = coresOn m ranks last units
-
-  units-size : length units ≡ length left
-  unfolding releasedOn
-  units-size = length-each (length left) _
-
-  -- a task has at most its C left
-  units-small : (i : ℕ) → 1 ≤ i → i ≤ length left → at units i ≤ at c i
-  unfolding releasedOn
-  units-small i low high = rw (at-each (length left) _ i low high) (cond-below (eqb (at phase i) 0) (r .lefts i low high))
+  cores = coresOn m ranks last left
 
   ranking : Ranking ranks
   ranking = record { once = r .once; real = named-real (r .named) }
 
   choice : Choice m chosen
-  choice = choose-choice m units ranking
+  choice = choose-choice m left ranking
 
   -- a chosen task is a task
   chosen-within : (i : ℕ) → 1 ≤ count (eqb i) chosen → (1 ≤ i) × (i ≤ length left)
-  chosen-within i h = rw units-size at (at-positive units i (le-trans h (choose-pending m units ranking i)))
+  chosen-within i h = at-positive left i (le-trans h (choose-pending m left ranking i))
 
   -- What each part asks, of what the parts before it leave.
 
@@ -94,21 +77,13 @@ module _ {m : ℕ} {c t ranks phase left last done dropped : List ℕ} (r : Read
   unfolding stepOn effectOn
   one-core-a-task e i low = rw (ap (λ (s : Stepped). s .cores) e) (cores-once i low)
 
-  cores-within : (k : ℕ) → k < length cores → getD cores k 0 ≤ length left
-  unfolding coresOn
-  cores-within k more =
-      let i : ℕ = getD cores k 0 in
-      ⊎-elim (λ (e : 0 ≡ i). omega arith)
-      (λ (low : 0 < i). chosen-within i (omega (arith, place-holds choice last i low, entry-counted cores k more)) .1)
-      (eq-or-lt-of-le zero-le)
-
-  working : Working chosen units done
+  working : Working chosen left done
   working =
       record {
-        done-size = r .done-size ∙ sym units-size;
-        named = rw units-size (rw (r .last-size) at named-chosen);
-        pending = λ i low high. choose-pending m units ranking i;
-        fits = λ i low high. omega (arith, choice .once i, r .done-fits i low (omega (arith, units-size)));
+        done-size = r .done-size;
+        named = rw (r .last-size) at named-chosen;
+        pending = λ i low high. choose-pending m left ranking i;
+        fits = λ i low high. omega (arith, choice .once i, r .done-fits i low high);
       }
 
   -- each chosen task is on one core, and no other task is on any
@@ -116,19 +91,20 @@ module _ {m : ℕ} {c t ranks phase left last done dropped : List ℕ} (r : Read
   unfolding coresOn given
   given-chosen i low = sym (place-holds choice last i low)
 
-  worked-size : length (workedOn units cores) ≡ length left
+  worked-size : length (workedOn left cores) ≡ length left
   unfolding workedOn
-  worked-size = length-each (length units) _ ∙ units-size
+  worked-size = length-each (length left) _
 
-  worked-small : (i : ℕ) → 1 ≤ i → i ≤ length left → at (workedOn units cores) i ≤ at c i
+  worked-small : (i : ℕ) → 1 ≤ i → i ≤ length left → at (workedOn left cores) i ≤ at c i
   unfolding workedOn
   worked-small i low high =
-      rw (at-each (length units) (λ j. at units j - given cores j) i low (omega (arith, units-size))) (omega (arith, units-small i low high))
+      rw (at-each (length left) (λ j. at left j - given cores j) i low high) (omega (arith, r .lefts i low high))
 
-  ending : Ending t phase (workedOn units cores) dropped
+  ending : Ending c t phase (workedOn left cores) dropped
   ending =
       record {
         few = omega (arith, r .few-tasks, worked-size);
+        c-size = r .c-size ∙ sym worked-size;
         t-size = r .t-size ∙ sym worked-size;
         phase-size = r .phase-size ∙ sym worked-size;
         dropped-size = r .dropped-size ∙ sym worked-size;
@@ -138,93 +114,83 @@ module _ {m : ℕ} {c t ranks phase left last done dropped : List ℕ} (r : Read
 
   -- The parts of the code, one after the other.
 
-  -- after the releases
-  module _ {left₁ : List ℕ} (released : left₁ ≡ each (length left) (λ i. cond (eqb (at phase i) 0) (at c i) (at left i))) where
-    left-is : left₁ ≡ units
-    unfolding releasedOn
-    left-is = released
+  -- after the choice
+  module _ {lent picked : List ℕ} {k : ℕ} (room : length lent ≡ m) (chose : Chose ranks left lent picked k) (rest : List ℕ) where
+    chosen-is : choose (length lent) ranks left ≡ chosen
+    chosen-is = rw room
 
-    -- what choosing asks
-    pub choosing : Named (length left₁) ranks
-    choosing = rw (left-is, units-size) (r .named)
+    count-is : k ≡ length chosen
+    count-is = chose .number ∙ ap length chosen-is
 
-    -- after the choice
-    module _ {lent picked : List ℕ} {k : ℕ} (room : length lent ≡ m) (chose : Chose ranks left₁ lent picked k) (rest : List ℕ) where
-      chosen-is : choose (length lent) ranks left₁ ≡ chosen
-      chosen-is = rw (room, left-is)
+    -- the chosen tasks stand first in what was lent
+    pub picked-fit : k ≤ length (picked ++ rest)
+    picked-fit = omega (arith, count-is, choice .few, chose .places, room, length-append picked rest)
 
-      count-is : k ≡ length chosen
-      count-is = chose .number ∙ ap length chosen-is
+    picked-is : take k (picked ++ rest) ≡ chosen
+    picked-is = take-append-le k picked rest (omega (arith, count-is, choice .few, chose .places, room)) ∙ chose .front ∙ chosen-is
 
-      -- the chosen tasks stand first in what was lent
-      pub picked-fit : k ≤ length (picked ++ rest)
-      picked-fit = omega (arith, count-is, choice .few, chose .places, room, length-append picked rest)
+    -- what placing asks
+    pub placing : {before : List ℕ} → length before ≡ m → Placing (take k (picked ++ rest)) last before
+    placing width =
+        rw picked-is
+        (record {
+          few = omega (arith, choice .few);
+          once = choice .once;
+          real = choice .real;
+          named = named-chosen;
+          lasts = λ j h. omega (arith, r .lasts (suc j) (omega arith) (omega (arith, r .last-size)));
+          small = omega (arith, r .few-cores);
+        })
 
-      picked-is : take k (picked ++ rest) ≡ chosen
-      picked-is = take-append-le k picked rest (omega (arith, count-is, choice .few, chose .places, room)) ∙ chose .front ∙ chosen-is
+    -- what the work asks
+    pub to-work : Working (take k (picked ++ rest)) left done
+    to-work = rw picked-is working
 
-      -- what placing asks
-      pub placing : {before : List ℕ} → length before ≡ m → Placing (take k (picked ++ rest)) last before
-      placing width =
-          rw picked-is
-          (record {
-            few = omega (arith, choice .few);
-            once = choice .once;
-            real = choice .real;
-            named = named-chosen;
-            lasts = λ j h. omega (arith, r .lasts (suc j) (omega arith) (omega (arith, r .last-size)));
-            small = omega (arith, r .few-cores);
-          })
+    -- after the placing and the work
+    module _ {before last₁ cores₁ left₂ done₁ : List ℕ} {moves : ℕ} (width : length before ≡ m)
+        (put : Placed (take k (picked ++ rest)) last before last₁ cores₁ moves) (worked : Worked (take k (picked ++ rest)) left done left₂ done₁) where
+      cores-is : cores₁ ≡ cores
+      unfolding coresOn
+      cores-is = put .placing ∙ rw (width, picked-is)
 
-      -- what the work asks
-      pub to-work : Working (take k (picked ++ rest)) left₁ done
-      to-work = rw (picked-is, left-is) working
+      lasts-are : last₁ ≡ each (length left) (λ i. cond (placed cores i) (position i cores) (at last i))
+      lasts-are = put .seated .lasts ∙ rw (cores-is, r .last-size)
 
-      -- after the placing and the work
-      module _ {before last₁ cores₁ left₂ done₁ : List ℕ} {moves : ℕ} (width : length before ≡ m)
-          (put : Placed (take k (picked ++ rest)) last before last₁ cores₁ moves) (worked : Worked (take k (picked ++ rest)) left₁ done left₂ done₁) where
-        cores-is : cores₁ ≡ cores
-        unfolding coresOn
-        cores-is = put .placing ∙ rw (width, picked-is)
+      moves-are : moves ≡ count (moved last cores) (numbers (length left))
+      moves-are = put .seated .number ∙ rw (cores-is, r .last-size)
 
-        lasts-are : last₁ ≡ each (length units) (λ i. cond (placed cores i) (position i cores) (at last i))
-        lasts-are = put .seated .lasts ∙ rw (cores-is, r .last-size, units-size)
+      worked-on : Worked chosen left done left₂ done₁
+      worked-on = rw picked-is at worked
 
-        moves-are : moves ≡ count (moved last cores) (numbers (length units))
-        moves-are = put .seated .number ∙ rw (cores-is, r .last-size, units-size)
+      worked-is : left₂ ≡ workedOn left cores
+      unfolding workedOn
+      worked-is = worked-on .lefts ∙ each-cong (length left) _ _ (λ i low high. ap (λ (d : ℕ). at left i - d) (given-chosen i low))
 
-        worked-on : Worked chosen units done left₂ done₁
-        worked-on = rw (picked-is, left-is) at worked
+      dones-are : done₁ ≡ each (length left) (λ i. at done i + given cores i)
+      dones-are = worked-on .dones ∙ each-cong (length left) _ _ (λ i low high. ap (λ (d : ℕ). at done i + d) (given-chosen i low))
 
-        worked-is : left₂ ≡ workedOn units cores
-        unfolding workedOn
-        worked-is = worked-on .lefts ∙ each-cong (length units) _ _ (λ i low high. ap (λ (d : ℕ). at units i - d) (given-chosen i low))
+      -- what the end asks
+      pub to-end : Ending c t phase left₂ dropped
+      to-end = rw worked-is ending
 
-        dones-are : done₁ ≡ each (length units) (λ i. at done i + given cores i)
-        dones-are = worked-on .dones ∙ each-cong (length units) _ _ (λ i low high. ap (λ (d : ℕ). at done i + d) (given-chosen i low))
+      -- after the end
+      module _ {phase₁ left₃ dropped₁ : List ℕ} {misses : ℕ} (ended : Ended c t phase left₂ dropped phase₁ left₃ dropped₁ misses) where
+        ended-on : Ended c t phase (workedOn left cores) dropped phase₁ left₃ dropped₁ misses
+        ended-on = rw worked-is at ended
 
-        -- what the end asks
-        pub to-end : Ending t phase left₂ dropped
-        to-end = rw worked-is ending
-
-        -- after the end
-        module _ {phase₁ left₃ dropped₁ : List ℕ} {misses : ℕ} (ended : Ended t phase left₂ dropped phase₁ left₃ dropped₁ misses) where
-          ended-on : Ended t phase (workedOn units cores) dropped phase₁ left₃ dropped₁ misses
-          ended-on = rw worked-is at ended
-
-          -- all that the slot leaves
-          pub whole : stepped phase₁ left₃ last₁ done₁ dropped₁ cores₁ moves misses ≡ stepOn m c t ranks phase left last done dropped
-          unfolding stepOn effectOn
-          whole =
-              let size : length (workedOn units cores) ≡ length units = worked-size ∙ sym units-size in
-              λ j.
-              record {
-                phase = (ended-on .phases ∙ ap (λ (n : ℕ). each n (λ i. nextPhase (at phase i) (at t i))) size) j;
-                left = (ended-on .lefts ∙ ap (λ (n : ℕ). each n (λ i. cond (endsAt phase t i) 0 (at (workedOn units cores) i))) size) j;
-                last = lasts-are j;
-                done = dones-are j;
-                dropped = (ended-on .drops ∙ ap (λ (n : ℕ). each n (λ i. at dropped i + cond (endsAt phase t i) (at (workedOn units cores) i) 0)) size) j;
-                cores = cores-is j;
-                moves = moves-are j;
-                misses = (ended-on .number ∙ ap (λ (n : ℕ). count (λ i. endsAt phase t i && ltb 0 (at (workedOn units cores) i)) (numbers n)) size) j;
-              }
+        -- all that the slot leaves
+        pub whole : stepped phase₁ left₃ last₁ done₁ dropped₁ cores₁ moves misses ≡ stepOn m c t ranks phase left last done dropped
+        unfolding stepOn effectOn
+        whole =
+            let size : length (workedOn left cores) ≡ length left = worked-size in
+            λ j.
+            record {
+              phase = (ended-on .phases ∙ ap (λ (n : ℕ). each n (λ i. nextPhase (at phase i) (at t i))) size) j;
+              left = (ended-on .lefts ∙ ap (λ (n : ℕ). each n (λ i. cond (endsAt phase t i) (at c i) (at (workedOn left cores) i))) size) j;
+              last = lasts-are j;
+              done = dones-are j;
+              dropped = (ended-on .drops ∙ ap (λ (n : ℕ). each n (λ i. at dropped i + cond (endsAt phase t i) (at (workedOn left cores) i) 0)) size) j;
+              cores = cores-is j;
+              moves = moves-are j;
+              misses = (ended-on .number ∙ ap (λ (n : ℕ). count (λ i. endsAt phase t i && ltb 0 (at (workedOn left cores) i)) (numbers n)) size) j;
+            }

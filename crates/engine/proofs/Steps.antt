@@ -1,14 +1,16 @@
 -- The slot on lists is the rules' slot: a well formed state gives all that it asks for, and it leaves the lists of the next state.
-use Prim.Native.Nat.{ℕ, suc, _+_, _-_, _/_, _%_, _^_, _≤_, _<_}
-use mathlib.Core.Path.{_≡_, sym, ap, _∙_}
-use mathlib.Core.Bool.{Bool, cond, _&&_}
+use Prim.Native.Nat.{ℕ, suc, _+_, _-_, _/_, _%_, _≤_, _<_}
+use mathlib.Core.Path.{_≡_, refl, sym, ap, _∙_}
+use mathlib.Core.Bool.{Bool, true, false, cond, _&&_}
+use mathlib.Core.Logic.{⊎-elim}
 use mathlib.Core.List.{List, _∷_}
-use native.Mathlib.Nat.{mod-lt, mul-le-mul-right, mul-div-le}
+use native.Mathlib.Nat.{le-refl, mod-lt, mul-le-mul-right, mul-div-le}
 use native.Mathlib.Omega.{arith}
 use lib.Dec.{eqb, ltb}
 use lib.ListN.{length, getD, length-map, List·getD-map}
 use Rattle.laws.specs.Lists.{count, numbers, each, at, position}
-use Rattle.laws.proofs.Each.{length-each, at-each, each-cong, count-cong}
+use Rattle.laws.proofs.Each.{length-each, at-each, each-at, each-cong, count-cong}
+use Rattle.laws.proofs.Tests.{decide}
 use Rattle.laws.proofs.Periods.{mod-next}
 use Rattle.laws.proofs.Positions.{entry-counted}
 use Rattle.laws.proofs.Sorted.{stands-from}
@@ -24,6 +26,21 @@ use Rattle.slot_laws.proofs.Forms.{Kept, RowFits}
 use Rattle.engine.specs.Choice.{Named}
 use Rattle.engine.specs.Ends.{nextPhase, ending}
 use Rattle.engine.specs.Step.{releasedOn, coresOn, workedOn, effectOn, stepOn, Ready, unitsOf, periodsOf, phasesIn, stepFrom, listsOf}
+
+-- the lesser of two, or the greater
+cond-below : (b : Bool) {x y : ℕ} → x ≤ y → cond b y x ≤ y
+cond-below true {y = y} h = le-refl y
+cond-below false h = h
+
+-- what a test gives, and what it then gives again
+cond-twice : (b : Bool) (x y z : ℕ) → cond b x z ≡ cond b x (cond b y z)
+cond-twice true x y z = refl
+cond-twice false x y z = refl
+
+-- a job's deadline is the release of the next one
+due-releases : (r : Row) (s : ℕ) → due r s ≡ releases r s
+unfolding due releases
+due-releases r s = refl
 
 -- ---- a table's columns
 
@@ -43,6 +60,15 @@ module _ (tbl : Table) where
   phases-size : (s : ℕ) → length (phasesIn tbl s) ≡ size tbl
   unfolding phasesIn
   phases-size s = length-each (size tbl) (λ j. s % rowOf tbl j .t)
+
+  -- the left work after the releases: one entry a task
+  pub release-size : (s : ℕ) (left : List ℕ) → length (release tbl s left) ≡ size tbl
+  unfolding release
+  release-size s left = length-each (size tbl) _
+
+  at-release : (s : ℕ) (left : List ℕ) (i : ℕ) → 1 ≤ i → i ≤ size tbl → at (release tbl s left) i ≡ cond (releases (rowOf tbl i) s) (rowOf tbl i .c) (at left i)
+  unfolding release demand
+  at-release s left i low high = at-each (size tbl) (λ j. cond (releases (rowOf tbl j) s) (rowOf tbl j .c) (at left j)) i low high
 
   -- the order names each task once, and nothing else
   order-named : Named (size tbl) (order tbl)
@@ -72,24 +98,27 @@ module _ {st : State} (kept : Kept st) where
 
   -- and it gives all that a slot asks of its lists
   pub ready : st .clock ≤ clockMax
-      → Ready (table .m) (unitsOf table) (periodsOf table) (st .ranks) (phasesIn table (st .clock)) (st .left) (st .last) (st .done) (st .dropped)
+      → Ready (table .m) (unitsOf table) (periodsOf table) (st .ranks) (phasesIn table (st .clock)) (release table (st .clock) (st .left)) (st .last) (st .done) (st .dropped)
   ready clock =
       record {
         few-cores = kept .taken .cores-high;
-        few-tasks = omega (arith, kept .taken .tasks-high);
-        c-size = length-map (table .rows) (λ r. r .c) ∙ sym (kept .left-length);
-        t-size = length-map (table .rows) (λ r. r .t) ∙ sym (kept .left-length);
-        phase-size = phases-size table (st .clock) ∙ sym (kept .left-length);
-        last-size = kept .last-length ∙ sym (kept .left-length);
-        done-size = kept .done-length ∙ sym (kept .left-length);
-        dropped-size = kept .dropped-length ∙ sym (kept .left-length);
-        named = rw (kept .ranked, kept .left-length) (order-named table);
+        few-tasks = omega (arith, kept .taken .tasks-high, release-size table (st .clock) (st .left));
+        c-size = length-map (table .rows) (λ r. r .c) ∙ sym (release-size table (st .clock) (st .left));
+        t-size = length-map (table .rows) (λ r. r .t) ∙ sym (release-size table (st .clock) (st .left));
+        phase-size = phases-size table (st .clock) ∙ sym (release-size table (st .clock) (st .left));
+        last-size = kept .last-length ∙ sym (release-size table (st .clock) (st .left));
+        done-size = kept .done-length ∙ sym (release-size table (st .clock) (st .left));
+        dropped-size = kept .dropped-length ∙ sym (release-size table (st .clock) (st .left));
+        named = rw (kept .ranked, release-size table (st .clock) (st .left)) (order-named table);
         once = λ i. rw (kept .ranked) (omega (arith, order-count table (eqb i), count-numbers-le i (size table)));
         phases =
             λ i low high.
             rw (at-phases table (st .clock) i low (within high), at-periods table i)
             (mod-lt (st .clock) (omega (arith, kept .taken .row i low (within high))));
-        lefts = λ i low high. rw (at-units table i) (kept .task i low (within high) .fits);
+        lefts =
+            λ i low high.
+            rw (at-release table (st .clock) (st .left) i low (within high), at-units table i)
+            (cond-below (releases (rowOf table i) (st .clock)) (kept .task i low (within high) .fits));
         lasts = λ i low high. kept .task i low (within high) .core;
         done-fits = λ i low high. omega (arith, kept .task i low (within high) .books, released-fits clock i low (within high));
         dropped-fits =
@@ -97,8 +126,8 @@ module _ {st : State} (kept : Kept st) where
             omega (arith, kept .task i low (within high) .books, released-fits clock i low (within high), at-units table i, kept .taken .row i low (within high));
       }
     where
-      within : {i : ℕ} → i ≤ length (st .left) → i ≤ size table
-      within h = omega (arith, kept .left-length)
+      within : {i : ℕ} → i ≤ length (release table (st .clock) (st .left)) → i ≤ size table
+      within h = omega (arith, release-size table (st .clock) (st .left))
 
   module _ (i : ℕ) (low : 1 ≤ i) (high : i ≤ size table) where
     -- task i's phase becomes that of the next slot, and is 0 where its deadline falls on the slot's end
@@ -119,9 +148,24 @@ module _ {st : State} (kept : Kept st) where
   next-phases = each-cong (size table) _ _ next-phase
 
   -- the left work after the releases
-  released-on : releasedOn (unitsOf table) (phasesIn table (st .clock)) (st .left) ≡ release table (st .clock) (st .left)
+  pub released-on : releasedOn (unitsOf table) (phasesIn table (st .clock)) (st .left) ≡ release table (st .clock) (st .left)
   unfolding releasedOn release demand
   released-on = rw (kept .left-length) (each-cong (size table) _ _ (λ i low high. rw (releases-now i low high, at-units table i)))
+
+  -- a release of no units takes the releases back: the jobs before them have ended
+  module _ (none : List ℕ) (zero-all : (i : ℕ) → at none i ≡ 0) where
+    withheld-one : (i : ℕ) (low : 1 ≤ i) (high : i ≤ size table)
+        → cond (eqb (at (phasesIn table (st .clock)) i) 0) (at none i) (at (release table (st .clock) (st .left)) i) ≡ at (st .left) i
+    withheld-one i low high =
+        rw (releases-now i low high, at-release table (st .clock) (st .left) i low high, zero-all i)
+        (⊎-elim (λ (e : releases (rowOf table i) (st .clock) ≡ true). rw e (sym (kept .task i low high .spent e)))
+        (λ (e : releases (rowOf table i) (st .clock) ≡ false). rw e)
+        (decide (releases (rowOf table i) (st .clock))))
+
+    pub withheld-on : releasedOn none (phasesIn table (st .clock)) (release table (st .clock) (st .left)) ≡ st .left
+    unfolding releasedOn
+    withheld-on =
+        rw (release-size table (st .clock) (st .left)) (each-cong (size table) _ _ withheld-one) ∙ each-at (size table) (st .left) (kept .left-length)
 
   -- the deadlines, for any work left before them
   abbrev endsOn : ℕ → Bool
@@ -131,8 +175,12 @@ module _ {st : State} (kept : Kept st) where
   dueOn i = due (rowOf table i) (suc (st .clock))
 
   module _ (worked : List ℕ) where
-    left-on : each (size table) (λ i. cond (endsOn i) 0 (at worked i)) ≡ each (size table) (λ i. cond (dueOn i) 0 (at worked i))
-    left-on = each-cong (size table) _ _ (λ i low high. ap (λ (b : Bool). cond b 0 (at worked i)) (ends i low high))
+    left-on : each (size table) (λ i. cond (endsOn i) (at (unitsOf table) i) (at worked i)) ≡ release table (suc (st .clock)) (each (size table) (λ i. cond (dueOn i) 0 (at worked i)))
+    unfolding release demand
+    left-on =
+        each-cong (size table) _ _ (λ i low high.
+        rw (ends i low high, at-units table i, ← due-releases (rowOf table i) (suc (st .clock)), at-each (size table) (λ j. cond (dueOn j) 0 (at worked j)) i low high)
+        (cond-twice (dueOn i) (rowOf table i .c) 0 (at worked i)))
 
     dropped-on : each (size table) (λ i. at (st .dropped) i + cond (endsOn i) (at worked i) 0) ≡ each (size table) (λ i. at (st .dropped) i + cond (dueOn i) (at worked i) 0)
     dropped-on = each-cong (size table) _ _ (λ i low high. ap (λ (b : Bool). at (st .dropped) i + cond b (at worked i) 0) (ends i low high))
@@ -146,7 +194,7 @@ module _ {st : State} (kept : Kept st) where
 
   -- the effect of any placing
   effect-on : (units cores : List ℕ) → length units ≡ size table
-      → effectOn (periodsOf table) (phasesIn table (st .clock)) units (st .last) (st .done) (st .dropped) cores ≡ listsOf (effect st units cores)
+      → effectOn (unitsOf table) (periodsOf table) (phasesIn table (st .clock)) units (st .last) (st .done) (st .dropped) cores ≡ listsOf (effect st units cores)
   unfolding effectOn workedOn listsOf effect
   effect-on units cores len =
       rw len
@@ -164,5 +212,5 @@ module _ {st : State} (kept : Kept st) where
 
   -- the slot on the state's lists is the rules' slot of the state
   pub step-slot : stepFrom st ≡ listsOf (slot st)
-  unfolding stepFrom stepOn slot coresOn release
-  step-slot = rw released-on (effect-on _ _ (length-each (size table) _))
+  unfolding stepFrom stepOn slot coresOn
+  step-slot = effect-on _ _ (release-size table (st .clock) (st .left))

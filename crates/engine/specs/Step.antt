@@ -1,5 +1,5 @@
 -- One slot on lists of plain numbers, one entry a task: the rules' slot with each task's phase, the slots since its last
--- release, in place of the clock.
+-- release, in place of the clock, from the releases of a slot to those of the next.
 use Prim.Native.Nat.{ℕ, _+_, _-_, _%_, _^_, _≤_, _<_}
 use mathlib.Core.Path.{_≡_}
 use mathlib.Core.Bool.{cond, _&&_}
@@ -9,7 +9,7 @@ use lib.ListN.{length}
 use Rattle.laws.specs.Lists.{count, numbers, each, at, position}
 use Rattle.rules.specs.Tables.{Table, size, rowOf}
 use Rattle.rules.specs.States.{State}
-use Rattle.rules.specs.Slots.{choose, place, given, placed, moved, Outcome}
+use Rattle.rules.specs.Slots.{release, choose, place, given, placed, moved, Outcome}
 use Rattle.engine.specs.Choice.{Named}
 use Rattle.engine.specs.Ends.{nextPhase, ending}
 
@@ -28,7 +28,7 @@ abbrev pub stepped : List ℕ → List ℕ → List ℕ → List ℕ → List �
 stepped phase left last done dropped cores moves misses =
     record { phase = phase; left = left; last = last; done = done; dropped = dropped; cores = cores; moves = moves; misses = misses }
 
--- the left work after the releases
+-- the left work after releases of c units each
 unfoldable pub releasedOn : List ℕ → List ℕ → List ℕ → List ℕ
 releasedOn c phase left = each (length left) (λ i. cond (eqb (at phase i) 0) (at c i) (at left i))
 
@@ -40,14 +40,14 @@ coresOn m ranks last released = place m last (choose m ranks released)
 unfoldable pub workedOn : List ℕ → List ℕ → List ℕ
 workedOn released cores = each (length released) (λ i. at released i - given cores i)
 
--- the slot, from the left work after the releases and the placing
-unfoldable pub effectOn : List ℕ → List ℕ → List ℕ → List ℕ → List ℕ → List ℕ → List ℕ → Stepped
-effectOn t phase released last done dropped cores =
+-- the slot, from the left work after the releases and the placing, up to the releases of the next slot
+unfoldable pub effectOn : List ℕ → List ℕ → List ℕ → List ℕ → List ℕ → List ℕ → List ℕ → List ℕ → Stepped
+effectOn c t phase released last done dropped cores =
     let n : ℕ = length released in
     let worked : List ℕ = workedOn released cores in
     record {
       phase = each n (λ i. nextPhase (at phase i) (at t i));
-      left = each n (λ i. cond (ending phase t i) 0 (at worked i));
+      left = each n (λ i. cond (ending phase t i) (at c i) (at worked i));
       last = each n (λ i. cond (placed cores i) (position i cores) (at last i));
       done = each n (λ i. at done i + given cores i);
       dropped = each n (λ i. at dropped i + cond (ending phase t i) (at worked i) 0);
@@ -58,9 +58,7 @@ effectOn t phase released last done dropped cores =
 
 -- the slot of m cores; c and t are the tasks' C and T, and ranks the tasks in priority order
 unfoldable pub stepOn : ℕ → List ℕ → List ℕ → List ℕ → List ℕ → List ℕ → List ℕ → List ℕ → List ℕ → Stepped
-stepOn m c t ranks phase left last done dropped =
-    let released : List ℕ = releasedOn c phase left in
-    effectOn t phase released last done dropped (coresOn m ranks last released)
+stepOn m c t ranks phase released last done dropped = effectOn c t phase released last done dropped (coresOn m ranks last released)
 
 -- what a slot asks of the lists
 pub record Ready (m : ℕ) (c t ranks phase left last done dropped : List ℕ) : Type 0 where
@@ -95,14 +93,14 @@ phasesIn tbl s = each (size tbl) (λ i. s % rowOf tbl i .t)
 -- the slot on the lists of a state
 unfoldable pub stepFrom : State → Stepped
 stepFrom st =
-    stepOn (st .table .m) (unitsOf (st .table)) (periodsOf (st .table)) (st .ranks) (phasesIn (st .table) (st .clock)) (st .left) (st .last) (st .done) (st .dropped)
+    stepOn (st .table .m) (unitsOf (st .table)) (periodsOf (st .table)) (st .ranks) (phasesIn (st .table) (st .clock)) (release (st .table) (st .clock) (st .left)) (st .last) (st .done) (st .dropped)
 
 -- what a slot of the rules shows and leaves, as such lists
 unfoldable pub listsOf : Outcome → Stepped
 listsOf o =
     record {
       phase = phasesIn (o .next .table) (o .next .clock);
-      left = o .next .left;
+      left = release (o .next .table) (o .next .clock) (o .next .left);
       last = o .next .last;
       done = o .next .done;
       dropped = o .next .dropped;

@@ -3,6 +3,6 @@
 mod choose;
 mod end;
 mod place;
-mod release;
+pub mod release;
 pub mod slot;
 mod work;

@@ -1,9 +1,10 @@
-// Slot s begins: a task whose period divides s releases a job of its C units.
+// Slot s begins: a task whose period divides s releases a job of its C units. This is for the first slot of a run: between two slots
+// the end of the first does it.
 ghost use mathlib.Core.Path.{_≡_};
 ghost use mathlib.Core.Bool.{cond};
 ghost use lib.ListN.{length};
 ghost use lib.Dec.{eqb};
-ghost use Rattle.laws.specs.Lists.{each, at};
+ghost use Rattle.engine.specs.Step.{releasedOn};
 
 // The left work of one task: C where its phase is 0, else what was left.
 fn released(phase: u32, c: u32, left: u32) -> u32
@@ -15,7 +16,7 @@ fn released(phase: u32, c: u32, left: u32) -> u32
 // `phase` has, for each task, the slots since its last release; 0 where it releases now.
 pub fn release(left: &mut [u32], phase: &[u32], c: &[u32])
     requires { ⌜ (length (now phase) ≡ length (now left)) × (length (now c) ≡ length (now left)) ⌝ }
-    ensures { λ _. ⌜ now (left .exit) ≡ each (length (now (left .entry))) (λ i. cond (eqb (at (now (phase .entry)) i) 0) (at (now (c .entry)) i) (at (now (left .entry)) i)) ⌝ }
+    ensures { λ _. ⌜ now (left .exit) ≡ releasedOn (now (c .entry)) (now (phase .entry)) (now (left .entry)) ⌝ }
 {
     let mut i = 0;
     while i < left.len() {

@@ -1,11 +1,10 @@
-// One slot: release, choose, place, work, and the deadlines at its end.
+// One slot: choose, place, work, and at its end the deadlines and the next releases.
 ghost use mathlib.Core.Path.{_≡_};
 ghost use lib.ListN.{length};
 ghost use Rattle.engine.specs.Step.{stepped, stepOn, Ready};
 use crate::choose::choose;
 use crate::end::end;
 use crate::place::place;
-use crate::release::release;
 use crate::work::work;
 
 // The moves in a slot and the misses at its end.
@@ -15,7 +14,8 @@ pub struct SlotCounts {
 }
 
 // `c` and `t` have each task's C and T, `ranks` the tasks in priority order, `phase` the slots since each task's last release.
-// The placing is put into `cores`: what stood there before is lost.
+// The jobs of the slot are released in `left` before it, and those of the next slot after it. The placing is put into `cores`: what
+// stood there before is lost.
 pub fn slot(
     c: &[u32],
     t: &[u32],
@@ -32,10 +32,9 @@ pub fn slot(
 {
     let mut chosen = [0u8; 32];
     let m = cores.len();
-    release(left, phase, c);
     let k = choose(ranks, left, &mut chosen[..m]);
     let moves = place(&chosen[..k], last, cores);
     work(&chosen[..k], left, done);
-    let misses = end(t, phase, left, dropped);
+    let misses = end(c, t, phase, left, dropped);
     SlotCounts { moves, misses }
 }

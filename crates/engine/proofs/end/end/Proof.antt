@@ -9,13 +9,13 @@ use Rattle.engine.proofs.end.end.Statement.{statement}
 use Rattle.engine.proofs.end.end.Tie as tie
 
 abbrev Inv-loop : tie.InvT-loop
-Inv-loop t phase₀ left₀ dropped₀ misses₀ i₀ phase left dropped misses i = Going t phase₀ left₀ dropped₀ phase left dropped misses i
+Inv-loop c t phase₀ left₀ dropped₀ misses₀ i₀ phase left dropped misses i = Going c t phase₀ left₀ dropped₀ phase left dropped misses i
 
 abbrev μ-loop : tie.MeasureT-loop
-μ-loop t phase₀ left₀ dropped₀ misses₀ i₀ phase left dropped misses i = length left₀ - i
+μ-loop c t phase₀ left₀ dropped₀ misses₀ i₀ phase left dropped misses i = length left₀ - i
 
 loop-holds : tie.Need-loop-holds Inv-loop μ-loop
-loop-holds c = start _ _ _ _ (c .before .before .before .before .pre)
+loop-holds c = start _ _ _ _ _ (c .before .before .before .before .before .pre)
 
 mul-next-phase : tie.Need-mul-next-phase Inv-loop μ-loop
 mul-next-phase c = search needs
@@ -30,9 +30,7 @@ shared-slice-read-next-phase : tie.Need-shared-slice-read-next-phase Inv-loop μ
 shared-slice-read-next-phase c = omega arith
 
 next-phase-requires : tie.Need-next-phase-requires Inv-loop μ-loop
-next-phase-requires c κs =
-    let start = c .before .before .before .before .before .before .before .before in
-    phase-low _ _ _ _ (start .pre) (c .before .before .before .loop .inv) (omega arith)
+next-phase-requires c κs = phase-low _ _ _ _ _ (c .before .before .before .before .before .before .before .before .before .pre) (c .before .before .before .loop .inv) (omega arith)
 
 mul-units : tie.Need-mul-units Inv-loop μ-loop
 mul-units c = search needs
@@ -46,8 +44,14 @@ mul-phase c = search needs
 slice-write-phase : tie.Need-slice-write-phase Inv-loop μ-loop
 slice-write-phase c = omega arith
 
-kept-requires : tie.Need-kept-requires Inv-loop μ-loop
-kept-requires c κs = search needs
+mul-renewed : tie.Need-mul-renewed Inv-loop μ-loop
+mul-renewed c = search needs
+
+shared-slice-read-renewed : tie.Need-shared-slice-read-renewed Inv-loop μ-loop
+shared-slice-read-renewed c = omega arith
+
+renewed-requires : tie.Need-renewed-requires Inv-loop μ-loop
+renewed-requires c κs = search needs
 
 mul-left : tie.Need-mul-left Inv-loop μ-loop
 mul-left c = search needs
@@ -66,9 +70,9 @@ slice-read-dropped c = omega arith
 
 add-dropped : tie.Need-add-dropped Inv-loop μ-loop
 add-dropped c =
-    let start = c .before .before .before .before .before .before .before .before .before .before .before .before .before in
-    let loop = c .before .before .before .before .before .before .before .before .loop in
-    record { fits = drops-fit _ _ _ _ (start .pre) (loop .inv) (omega arith) (c .before .before .before .before .next-phase .result) (c .before .lost .ensures) }
+    record {
+      fits = drops-fit _ _ _ _ _ (c .before .before .before .before .before .before .before .before .before .before .before .before .before .before .before .pre) (c .before .before .before .before .before .before .before .before .before .loop .inv) (omega arith) (c .before .before .before .before .before .next-phase .result) (c .before .lost .ensures);
+    }
 
 mul-dropped-2 : tie.Need-mul-dropped-2 Inv-loop μ-loop
 mul-dropped-2 c = search needs
@@ -81,9 +85,7 @@ missed-requires c κs = search needs
 
 add-misses : tie.Need-add-misses Inv-loop μ-loop
 add-misses c =
-    let start = c .before .before .before .before .before .before .before .before .before .before .before .before .before .before in
-    let loop = c .before .before .before .before .before .before .before .before .before .loop in
-    record { fits = misses-fit _ _ _ _ (start .pre) (loop .inv) (omega arith) (c .before .before .lost .result) (c .missed .ensures) }
+    record { fits = misses-fit _ _ _ _ _ (c .before .before .before .before .before .before .before .before .before .before .before .before .before .before .before .before .pre) (c .before .before .before .before .before .before .before .before .before .before .loop .inv) (omega arith) (c .before .before .lost .result) (c .missed .ensures) }
 
 add-i : tie.Need-add-i Inv-loop μ-loop
 add-i c = omega arith
@@ -93,25 +95,23 @@ loop-less c = omega arith
 
 loop-again : tie.Need-loop-again Inv-loop μ-loop
 loop-again c =
-    let start = c .before .before .before .before .before .before .before .before .before .before .before .before .before .before in
-    let loop = c .before .before .before .before .before .before .before .before .before .loop in
-    turn _ _ _ _ (start .pre) (loop .inv) (omega arith)
-    (c .before .before .before .before .before .next-phase .ensures)
-    (c .before .before .before .kept .ensures)
+    turn _ _ _ _ _ (c .before .before .before .before .before .before .before .before .before .before .before .before .before .before .before .before .pre) (c .before .before .before .before .before .before .before .before .before .before .loop .inv) (omega arith)
+    (c .before .before .before .before .before .before .next-phase .ensures)
+    (c .before .before .before .renewed .ensures)
     (c .before .before .lost .ensures)
     (c .missed .ensures)
 
 same-length : tie.Need-same-length Inv-loop μ-loop
-same-length c = c .before .loop .inv .phase-size ∙ sym (c .before .before .before .before .before .before .pre .phase-size)
+same-length c = c .before .loop .inv .phase-size ∙ sym (c .before .before .before .before .before .before .before .pre .phase-size)
 
 same-length-2 : tie.Need-same-length-2 Inv-loop μ-loop
 same-length-2 c = c .before .loop .inv .left-size
 
 same-length-3 : tie.Need-same-length-3 Inv-loop μ-loop
-same-length-3 c = c .before .loop .inv .dropped-size ∙ sym (c .before .before .before .before .before .before .pre .dropped-size)
+same-length-3 c = c .before .loop .inv .dropped-size ∙ sym (c .before .before .before .before .before .before .before .pre .dropped-size)
 
 returns : tie.Need-returns Inv-loop μ-loop
-returns c = ended _ _ _ _ (c .before .before .before .before .before .before .pre) (c .before .loop .inv) (omega arith)
+returns c = ended _ _ _ _ _ (c .before .before .before .before .before .before .before .pre) (c .before .loop .inv) (omega arith)
 
 pub end-spec : {M : Type 1} → statement M
 end-spec =
@@ -129,7 +129,9 @@ end-spec =
     slice-read-units
     mul-phase
     slice-write-phase
-    kept-requires
+    mul-renewed
+    shared-slice-read-renewed
+    renewed-requires
     mul-left
     slice-write-left
     lost-requires

@@ -9,6 +9,7 @@ use lib.Dec.{eqb}
 use lib.ListN.{length, length-set}
 use Rattle.laws.specs.Lists.{at}
 use Rattle.laws.proofs.Filling.{filled, filled-turn, filled-here, filled-end, at-next}
+use Rattle.engine.specs.Step.{releasedOn}
 use Rattle.engine.proofs.release.release.Statement.{statement}
 use Rattle.engine.proofs.release.release.Tie as tie
 
@@ -76,6 +77,7 @@ same-length : tie.Need-same-length Inv-loop μ-loop
 same-length c = c .before .loop .inv .2
 
 returns : tie.Need-returns Inv-loop μ-loop
+unfolding releasedOn
 returns c =
     let a = c .before .before .before .before .before .args in
     c .before .loop .inv .1 ∙ filled-end (next (a .phase .now) (a .c .now) (a .left .now)) (a .left .now) (c .before .loop .i) (omega arith)
