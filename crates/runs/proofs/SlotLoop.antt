@@ -6,12 +6,14 @@ use native.Mathlib.Nat.{suc-mul, mul-le-mul-right}
 use native.Mathlib.Numerals.{add-one}
 use native.Mathlib.Omega.{arith}
 use borrow.Rule.Slice.PartMut.{putMid}
-use lib.ListN.{length, take, drop, length-take, length-drop}
+use lib.ListN.{length, take, drop, replicate, length-map, length-take, length-drop}
+use lib.Seq.{take-nil, length-take-le}
+use Rattle.laws.specs.Lists.{at}
 use Rattle.rules.specs.Limits.{coresMax}
 use Rattle.laws.proofs.Each.{length-each}
 use Rattle.rules.specs.Tables.{Table, size}
 use Rattle.rules.specs.States.{State}
-use Rattle.rules.specs.Slots.{Shown, effect, slot}
+use Rattle.rules.specs.Slots.{Shown, release, effect, slot}
 use Rattle.rules.specs.Runs.{after, shows, slotLine, slotLines}
 use Rattle.rules.specs.Answers.{lay}
 use Rattle.slot_laws.proofs.After.{after-suc, after-table}
@@ -20,8 +22,8 @@ use Rattle.slot_laws.proofs.Books.{slot-kept, after-kept}
 use Rattle.slot_laws.proofs.Lengths.{length-slotLine, length-slotLines, slot-width}
 use Rattle.reading_laws.proofs.Lays.{length-lay, lay-front, laid-on}
 use Rattle.frames.specs.Slots.{shownAs}
-use Rattle.engine.specs.Step.{Stepped, stepped, stepOn, Ready, unitsOf, periodsOf, phasesIn, stepFrom, listsOf}
-use Rattle.engine.proofs.Steps.{ready, step-slot}
+use Rattle.engine.specs.Step.{Stepped, stepped, releasedOn, stepOn, Ready, unitsOf, periodsOf, phasesIn, stepFrom, listsOf}
+use Rattle.engine.proofs.Steps.{release-size, ready, released-on, withheld-on, step-slot}
 use Rattle.verdicts.specs.Columns.{rowsOf, tableOf}
 use Rattle.runs.specs.Slots.{stateOf, frameLength, Runnable, coresAfter, RanSlots}
 
@@ -40,6 +42,17 @@ periods-of m [] (t ∷ ts) e = absurd (omega arith)
 periods-of m (c ∷ cs) [] e = absurd (omega arith)
 periods-of m (c ∷ cs) (t ∷ ts) e = ap (λ (l : List ℕ). t ∷ l) (periods-of m cs ts (omega arith))
 
+-- no units, for as many tasks as are asked for
+abbrev zeros : List ℕ
+zeros = replicate 64 0
+
+at-zeros : (m n i : ℕ) → at (take n (replicate m 0)) i ≡ 0
+at-zeros m n zero = refl
+at-zeros zero n (suc i) = rw (take-nil n)
+at-zeros (suc m) zero (suc i) = refl
+at-zeros (suc m) (suc n) (suc zero) = refl
+at-zeros (suc m) (suc n) (suc (suc i)) = at-zeros m n (suc i)
+
 -- ---- the lines of one slot more
 
 lines-suc : (k : ℕ) (st : State) → slotLines (suc k) st ≡ slotLines k st ++ slotLine (slot (after k st) .shown)
@@ -53,12 +66,47 @@ lines-suc (suc k) st =
 
 pub record Run (st : State) (count : ℕ) (c t cores₀ out₀ phase left last done dropped cores out : List ℕ) (moves misses place k : ℕ) : Type 0 where
   pub within : k ≤ count
-  pub state : stateOf (st .table .m) (st .clock + k) c t (st .ranks) left last done dropped moves misses ≡ after k st
+  pub state : stateOf (st .table .m) (st .clock + k) c t (st .ranks) (after k st .left) last done dropped moves misses ≡ after k st
+  pub lefts : left ≡ release (st .table) (st .clock + k) (after k st .left)
   pub phases : phase ≡ phasesIn (st .table) (st .clock + k)
   pub placing : cores ≡ coresAfter k st cores₀
   pub wide : length cores ≡ st .table .m
   pub laid : out ≡ lay out₀ 0 (slotLines k st)
   pub at-place : place ≡ k * frameLength (st .table .m)
+
+-- the releases before the first slot
+released-now : {m clock count : ℕ} {c t ranks phase left last done dropped out : List ℕ} {moves misses : ℕ}
+    → Runnable (stateOf m clock c t ranks left last done dropped moves misses) count c t phase out → releasedOn c phase left ≡ release (tableOf m c t) clock left
+released-now {m} {c = c} {t} {ranks} {left = left} {last} {done} {dropped} {moves = moves} {misses} r =
+    rw (r .phases) (rw (units-of m c t (r .columns)) at (released-on (formed-kept _ (r .formed))))
+
+-- there is an entry a task in each list
+module _ {m clock count : ℕ} {c t ranks phase left last done dropped out : List ℕ} {moves misses : ℕ}
+    (r : Runnable (stateOf m clock c t ranks left last done dropped moves misses) count c t phase out) where
+  pub few-tasks : length left ≤ 64
+  few-tasks = omega (arith, formed-kept _ (r .formed) .left-length, formed-kept _ (r .formed) .taken .tasks-high)
+
+  pub lengths : (length phase ≡ length left) × (length c ≡ length left)
+  unfolding phasesIn
+  lengths =
+      let size-is : length left ≡ size (tableOf m c t) = formed-kept _ (r .formed) .left-length in (
+        ap length (r .phases) ∙ length-each (size (tableOf m c t)) _ ∙ sym size-is,
+        ap length (sym (units-of m c t (r .columns))) ∙ length-map (tableOf m c t .rows) (λ x. x .c) ∙ sym size-is,
+      )
+
+-- the left work before releases, told from that after them
+abbrev pub before : List ℕ → List ℕ → List ℕ
+before phase left = releasedOn (take (length left) zeros) phase left
+
+module _ {m clock count : ℕ} {c t ranks phase left last done dropped out : List ℕ} {moves misses : ℕ}
+    (r : Runnable (stateOf m clock c t ranks left last done dropped moves misses) count c t phase out) {left₁ : List ℕ} (e : left₁ ≡ releasedOn c phase left) where
+  pub told : before phase left₁ ≡ left
+  told =
+      rw (e, released-now r, r .phases)
+      (withheld-on (formed-kept _ (r .formed)) (take (length (release (tableOf m c t) clock left)) zeros) (at-zeros 64 (length (release (tableOf m c t) clock left))))
+
+  pub still : Runnable (stateOf m clock c t ranks (before phase left₁) last done dropped moves misses) count c t phase out
+  still = rw told r
 
 module _ {st : State} {count : ℕ} {c t phase₀ out₀ : List ℕ} (r : Runnable st count c t phase₀ out₀) where
   kept₀ : Kept st
@@ -73,7 +121,7 @@ module _ {st : State} {count : ℕ} {c t phase₀ out₀ : List ℕ} (r : Runnab
     m = st .table .m
 
     abbrev current : State
-    current = stateOf m (st .clock + k) c t (st .ranks) left last done dropped moves misses
+    current = stateOf m (st .clock + k) c t (st .ranks) (after k st .left) last done dropped moves misses
 
     kept : Kept current
     kept = subst Kept (sym (g .state)) (after-kept k kept₀)
@@ -83,6 +131,9 @@ module _ {st : State} {count : ℕ} {c t phase₀ out₀ : List ℕ} (r : Runnab
 
     phases-now : phase ≡ phasesIn (tableOf m c t) (st .clock + k)
     phases-now = g .phases ∙ ap (λ (x : Table). phasesIn x (st .clock + k)) (sym table-same)
+
+    lefts-now : left ≡ release (tableOf m c t) (st .clock + k) (after k st .left)
+    lefts-now = g .lefts ∙ ap (λ (x : Table). release x (st .clock + k) (after k st .left)) (sym table-same)
 
     lines-length : length (slotLines k st) ≡ k * frameLength m
     lines-length = length-slotLines k st
@@ -99,27 +150,27 @@ module _ {st : State} {count : ℕ} {c t phase₀ out₀ : List ℕ} (r : Runnab
     -- what the next slot asks
     pub slot-ready : Ready (length cores) c t (st .ranks) phase left last done dropped
     slot-ready =
-        rw (g .wide, phases-now) (rw (units-of m c t (r .columns), periods-of m c t (r .columns)) at (ready kept (omega (arith, r .in-time))))
+        rw (g .wide, phases-now, lefts-now) (rw (units-of m c t (r .columns), periods-of m c t (r .columns)) at (ready kept (omega (arith, r .in-time))))
 
     -- what it leaves
     slot-left : stepOn (length cores) c t (st .ranks) phase left last done dropped ≡ listsOf (slot current)
     unfolding stepFrom
     slot-left =
-        rw (g .wide, phases-now) (rw (units-of m c t (r .columns), periods-of m c t (r .columns)) at (step-slot kept))
+        rw (g .wide, phases-now, lefts-now) (rw (units-of m c t (r .columns), periods-of m c t (r .columns)) at (step-slot kept))
 
     module _ (more : k < count) {phase′ left′ last′ done′ dropped′ cores′ : List ℕ} {moved missed : ℕ}
         (e : stepped phase′ left′ last′ done′ dropped′ cores′ moved missed ≡ stepOn (length cores) c t (st .ranks) phase left last done dropped) where
       lists : stepped phase′ left′ last′ done′ dropped′ cores′ moved missed ≡ listsOf (slot current)
       lists = e ∙ slot-left
 
-      next-state : stateOf m (st .clock + (k + 1)) c t (st .ranks) left′ last′ done′ dropped′ (moves + moved) (misses + missed) ≡ slot current .next
+      next-state : stateOf m (st .clock + (k + 1)) c t (st .ranks) (slot current .next .left) last′ done′ dropped′ (moves + moved) (misses + missed) ≡ slot current .next
       unfolding slot effect listsOf
       next-state j =
           record {
             table = tableOf m c t;
             ranks = st .ranks;
             clock = clock-next j;
-            left = lists j .left;
+            left = slot current .next .left;
             last = lists j .last;
             done = lists j .done;
             dropped = lists j .dropped;
@@ -132,6 +183,19 @@ module _ {st : State} {count : ℕ} {c t phase₀ out₀ : List ℕ} (r : Runnab
 
       after-next : slot current .next ≡ after (k + 1) st
       after-next = ap (λ (s : State). slot s .next) (g .state) ∙ sym (after-suc k st) ∙ rw (add-one k)
+
+      state-next : stateOf m (st .clock + (k + 1)) c t (st .ranks) (after (k + 1) st .left) last′ done′ dropped′ (moves + moved) (misses + missed) ≡ after (k + 1) st
+      state-next =
+          ap (λ (s : State). stateOf m (st .clock + (k + 1)) c t (st .ranks) (s .left) last′ done′ dropped′ (moves + moved) (misses + missed)) (sym after-next)
+          ∙ next-state
+          ∙ after-next
+
+      lefts-next : left′ ≡ release (st .table) (st .clock + (k + 1)) (after (k + 1) st .left)
+      unfolding listsOf
+      lefts-next =
+          ap (λ (x : Stepped). x .left) lists
+          ∙ ap (λ (s : State). release (s .table) (s .clock) (s .left)) after-next
+          ∙ rw (after-table (k + 1) st, ← ap (λ (s : State). s .clock) state-next)
 
       shown-now : shownAs (st .clock + k) cores′ moved missed ≡ slot current .shown
       unfolding slot effect listsOf
@@ -151,7 +215,7 @@ module _ {st : State} {count : ℕ} {c t phase₀ out₀ : List ℕ} (r : Runnab
       cores-wide : length cores′ ≡ m
       cores-wide = ap (λ (x : Shown). length (x .cores)) shown-now ∙ slot-width current
 
-      kept-next : Kept (stateOf m (st .clock + (k + 1)) c t (st .ranks) left′ last′ done′ dropped′ (moves + moved) (misses + missed))
+      kept-next : Kept (stateOf m (st .clock + (k + 1)) c t (st .ranks) (slot current .next .left) last′ done′ dropped′ (moves + moved) (misses + missed))
       kept-next = subst Kept (sym next-state) (slot-kept kept)
 
       -- the totals do not wrap
@@ -173,7 +237,8 @@ module _ {st : State} {count : ℕ} {c t phase₀ out₀ : List ℕ} (r : Runnab
           let line : List ℕ = slotLine (shownAs (st .clock + k) cores′ moved missed) in
           record {
             within = omega arith;
-            state = next-state ∙ after-next;
+            state = state-next;
+            lefts = lefts-next;
             phases = phases-next;
             placing = cores-next;
             wide = cores-wide;
@@ -188,7 +253,7 @@ module _ {st : State} {count : ℕ} {c t phase₀ out₀ : List ℕ} (r : Runnab
 
     -- every list keeps its length
     pub left-size : length left ≡ length (st .left)
-    left-size = kept .left-length ∙ ap size table-same ∙ sym (kept₀ .left-length)
+    left-size = ap length (g .lefts) ∙ release-size (st .table) (st .clock + k) (after k st .left) ∙ sym (kept₀ .left-length)
 
     pub last-size : length last ≡ length (st .last)
     last-size = kept .last-length ∙ ap size table-same ∙ sym (kept₀ .last-length)
@@ -203,12 +268,29 @@ module _ {st : State} {count : ℕ} {c t phase₀ out₀ : List ℕ} (r : Runnab
     unfolding phasesIn
     phase-size = rw (g .phases, r .phases, length-each (size (st .table)) _, length-each (size (st .table)) _)
 
+    -- what a release of no units after the last slot asks
+    pub last-lengths : (n : ℕ) → n ≡ length (st .left) → n ≤ 64 → (length phase ≡ length left) × (length (take n zeros) ≡ length left)
+    unfolding phasesIn
+    last-lengths n e few = (
+      ap length (g .phases) ∙ length-each (size (st .table)) _ ∙ sym (kept₀ .left-length) ∙ sym left-size,
+      length-take-le n zeros few ∙ e ∙ sym left-size,
+    )
+
+    -- a release of no units after the last slot gives the state's own left work
+    left-back : (n : ℕ) {left″ : List ℕ} → left″ ≡ releasedOn (take n zeros) phase left → left″ ≡ after k st .left
+    left-back n e = e ∙ rw (phases-now, lefts-now) (withheld-on kept (take n zeros) (at-zeros 64 n))
+
+    pub left-end : (n : ℕ) {left″ : List ℕ} → left″ ≡ releasedOn (take n zeros) phase left → length left″ ≡ length (st .left)
+    unfolding releasedOn
+    left-end n e = ap length e ∙ length-each (length left) _ ∙ left-size
+
     -- the last slot was run
-    pub ended : count ≤ k → RanSlots st count cores₀ out₀ (stateOf m (st .clock + count) c t (st .ranks) left last done dropped moves misses) phase cores out
-    ended h =
+    pub ended : count ≤ k → (n : ℕ) {left″ : List ℕ} → left″ ≡ releasedOn (take n zeros) phase left
+        → RanSlots st count cores₀ out₀ (stateOf m (st .clock + count) c t (st .ranks) left″ last done dropped moves misses) phase cores out
+    ended h n e =
         let all : k ≡ count = omega (arith, g .within) in
         record {
-          state = rw all at (g .state);
+          state = rw all at (ap (λ (l : List ℕ). stateOf m (st .clock + k) c t (st .ranks) l last done dropped moves misses) (left-back n e) ∙ g .state);
           phases = rw all at (g .phases);
           placing = rw all at (g .placing);
           lines = g .laid ∙ lay-front out₀ (slotLines k st) ∙ rw (lines-length, all);
@@ -216,14 +298,15 @@ module _ {st : State} {count : ℕ} {c t phase₀ out₀ : List ℕ} (r : Runnab
 
 -- no slot was run yet
 pub start : {m clock count : ℕ} {c t ranks phase left last done dropped : List ℕ} (cores out : List ℕ) {moves misses : ℕ} → length cores ≡ m
-    → Runnable (stateOf m clock c t ranks left last done dropped moves misses) count c t phase out
-    → Run (stateOf m clock c t ranks left last done dropped moves misses) count c t cores out phase left last done dropped cores out moves misses 0 0
+    → Runnable (stateOf m clock c t ranks left last done dropped moves misses) count c t phase out → {left₁ : List ℕ} → left₁ ≡ releasedOn c phase left
+    → Run (stateOf m clock c t ranks left last done dropped moves misses) count c t cores out phase left₁ last done dropped cores out moves misses 0 0
 unfolding after coresAfter slotLines shows lay
-start {m} {clock} {c = c} {t} {ranks} {left = left} {last} {done} {dropped} cores out {moves} {misses} wide r =
+start {m} {clock} {c = c} {t} {ranks} {left = left} {last} {done} {dropped} cores out {moves} {misses} wide r e =
     let now : clock + 0 ≡ clock = omega arith in
     record {
       within = zero-le;
       state = ap (λ (s : ℕ). stateOf m s c t ranks left last done dropped moves misses) now;
+      lefts = e ∙ released-now r ∙ ap (λ (s : ℕ). release (tableOf m c t) s left) (sym now);
       phases = r .phases ∙ ap (phasesIn (tableOf m c t)) (sym now);
       placing = refl;
       wide = wide;

@@ -4,6 +4,7 @@ ghost use Prim.Native.Nat.{_+_, _≤_};
 ghost use lib.ListN.{length};
 ghost use Rattle.rules.specs.Limits.{coresMax};
 ghost use Rattle.runs.specs.Slots.{stateOf, frameLength, Runnable, RanSlots};
+use engine::release::release;
 use engine::slot::slot;
 use frames::slot::write_slot;
 
@@ -43,10 +44,13 @@ pub fn run_slots(
     ensures { λ r. ⌜ RanSlots (stateOf (length (now (cores .entry))) clock (now (c .entry)) (now (t .entry)) (now (ranks .entry)) (now (left .entry)) (now (last .entry)) (now (done .entry)) (now (dropped .entry)) (totals .moves) (totals .misses)) count (now (cores .entry)) (now (out .entry)) (stateOf (length (now (cores .entry))) (clock + count) (now (c .entry)) (now (t .entry)) (now (ranks .entry)) (now (left .exit)) (now (last .exit)) (now (done .exit)) (now (dropped .exit)) (r .moves) (r .misses)) (now (phase .exit)) (now (cores .exit)) (now (out .exit)) ⌝ }
 {
     let width = frame_length(cores.len());
+    let n = left.len();
+    let none = [0u32; 64];
     let mut moves = totals.moves;
     let mut misses = totals.misses;
     let mut place = 0;
     let mut k = 0;
+    release(left, phase, c);
     while k < count {
         let shown = slot(c, t, ranks, phase, left, last, done, dropped, cores);
         write_slot(
@@ -61,5 +65,7 @@ pub fn run_slots(
         place += width;
         k += 1;
     }
+    // The last slot's end has released the jobs of the next. Their tasks have ended their jobs before, so no units are left.
+    release(left, phase, &none[..n]);
     Totals { moves, misses }
 }

@@ -1,24 +1,32 @@
 -- `runs::slots::run_slots` meets its contract: a loop over the slots, whose turn is one slot and its frame.
 use Prim.Native.Nat.{_-_}
-use mathlib.Core.Path.{refl}
+use mathlib.Core.Path.{refl, sym, ap, _∙_}
 use lib.ListN.{length}
+use lib.Seq.{length-take-le}
 use Rattle.runs.specs.Slots.{stateOf}
-use Rattle.runs.proofs.SlotLoop.{Run, few-cores, start, place-room, slot-ready, frame-room, moves-fit, misses-fit, turn, ended, left-size, last-size, done-size, dropped-size, phase-size, out-size}
+use Rattle.runs.proofs.SlotLoop.{Run, few-tasks, lengths, before, told, still, few-cores, start, place-room, slot-ready, frame-room, moves-fit, misses-fit, turn, last-lengths, left-end, ended, last-size, done-size, dropped-size, phase-size, out-size}
 use native.Mathlib.Omega.{arith}
+use borrow.Author.Needs.{needs}
 use Rattle.runs.proofs.slots.run_slots.Statement.{statement}
 use Rattle.runs.proofs.slots.run_slots.Tie as tie
 
 abbrev Inv-loop : tie.InvT-loop
-Inv-loop clock count c t ranks phase₀ left₀ last₀ done₀ dropped₀ cores₀ out₀ width moves₀ misses₀ place₀ k₀ phase left last done dropped cores out moves misses place k =
-    Run (stateOf (length cores₀) clock c t ranks left₀ last₀ done₀ dropped₀ moves₀ misses₀) count c t cores₀ out₀ phase left last done dropped cores out moves misses place k
+Inv-loop clock count c t ranks phase₀ left₀ last₀ done₀ dropped₀ cores₀ out₀ width n none moves₀ misses₀ place₀ k₀ phase left last done dropped cores out moves misses place k =
+    Run (stateOf (length cores₀) clock c t ranks (before phase₀ left₀) last₀ done₀ dropped₀ moves₀ misses₀) count c t cores₀ out₀ phase left last done dropped cores out moves misses place k
 
 abbrev μ-loop : tie.MeasureT-loop
-μ-loop clock count c t ranks phase₀ left₀ last₀ done₀ dropped₀ cores₀ out₀ width moves₀ misses₀ place₀ k₀ phase left last done dropped cores out moves misses place k =
+μ-loop clock count c t ranks phase₀ left₀ last₀ done₀ dropped₀ cores₀ out₀ width n none moves₀ misses₀ place₀ k₀ phase left last done dropped cores out moves misses place k =
     count - k
 
 -- the places before the loop and at its head
 abbrev begun : tie.At-loop Inv-loop μ-loop → tie.Start Inv-loop μ-loop
-begun c = c .before .before .before .before .before .before .before .before .before .before .before .before
+begun c = c .before .before .before .before .before .before .before .before .before .before .before .before .before .before .before .before .before
+
+abbrev framed : tie.At-loop Inv-loop μ-loop → tie.After-frame-length Inv-loop μ-loop
+framed c = c .before .before .before .before .before .before
+
+abbrev freed : tie.At-loop Inv-loop μ-loop → tie.After-release Inv-loop μ-loop
+freed c = c .before .before .before
 
 abbrev looped : tie.After-slot Inv-loop μ-loop → tie.In-loop Inv-loop μ-loop
 looped c = c .before .before .before .before .before .before .before
@@ -29,28 +37,34 @@ slotted c = c .before .before .before .before .before .before .before .before .b
 frame-length-requires : tie.Need-frame-length-requires Inv-loop μ-loop
 frame-length-requires c κs = few-cores (c .before .before .before .before .before .before .before .before .before .before .pre)
 
+release-requires : tie.Need-release-requires Inv-loop μ-loop
+release-requires c κs = lengths (c .before .before .before .before .before .before .before .before .before .before .before .before .before .pre)
+
 loop-holds : tie.Need-loop-holds Inv-loop μ-loop
-loop-holds c = start _ _ refl (c .before .before .before .before .before .before .before .before .before .before .before .pre)
+loop-holds c =
+    let pre = c .before .before .before .before .before .before .before .before .before .before .before .before .before .before .before .before .pre in
+    let e = c .before .before .release .ensures in
+    rw (told pre e) (start _ _ refl pre e)
 
 slot-requires : tie.Need-slot-requires Inv-loop μ-loop
 slot-requires c κs =
     let loop = c .before .before .before .before .before .before in
-    slot-ready (begun (loop .before) .pre) (loop .before .loop .inv)
+    slot-ready (still (begun (loop .before) .pre) (freed (loop .before) .release .ensures)) (loop .before .loop .inv)
 
 sub-write-slot : tie.Need-sub-write-slot Inv-loop μ-loop
 sub-write-slot c =
     let loop = looped (c .before .before .before .before .before .before .before .before .before .before .before .before) in
-    omega (arith, place-room (begun (loop .before) .pre) (loop .before .loop .inv) (loop .loop-test .taken))
+    omega (arith, place-room (still (begun (loop .before) .pre) (freed (loop .before) .release .ensures)) (loop .before .loop .inv) (loop .loop-test .taken))
 
 part-write-slot-start : tie.Need-part-write-slot-start Inv-loop μ-loop
 part-write-slot-start c =
     let loop = looped (c .before .before .before .before .before .before .before .before .before .before .before .before) in
-    omega (arith, place-room (begun (loop .before) .pre) (loop .before .loop .inv) (loop .loop-test .taken))
+    omega (arith, place-room (still (begun (loop .before) .pre) (freed (loop .before) .release .ensures)) (loop .before .loop .inv) (loop .loop-test .taken))
 
 part-write-slot-end : tie.Need-part-write-slot-end Inv-loop μ-loop
 part-write-slot-end c =
     let loop = looped (c .before .before .before .before .before .before .before .before .before .before .before .before) in
-    omega (arith, place-room (begun (loop .before) .pre) (loop .before .loop .inv) (loop .loop-test .taken))
+    omega (arith, place-room (still (begun (loop .before) .pre) (freed (loop .before) .release .ensures)) (loop .before .loop .inv) (loop .loop-test .taken))
 
 add-write-slot : tie.Need-add-write-slot Inv-loop μ-loop
 add-write-slot c =
@@ -61,7 +75,7 @@ write-slot-requires : tie.Need-write-slot-requires Inv-loop μ-loop
 write-slot-requires c κs =
     let slot = c .before .before .before .before .before .before .before .before .before .before .before .before .before .before in
     let loop = looped slot in
-    frame-room (begun (loop .before) .pre) (loop .before .loop .inv) (loop .loop-test .taken) (slot .slot .ensures)
+    frame-room (still (begun (loop .before) .pre) (freed (loop .before) .release .ensures)) (loop .before .loop .inv) (loop .loop-test .taken) (slot .slot .ensures)
 
 cast-moves : tie.Need-cast-moves Inv-loop μ-loop
 cast-moves c = omega arith
@@ -70,7 +84,7 @@ add-moves : tie.Need-add-moves Inv-loop μ-loop
 add-moves c =
     let slot = slotted (c .before .before .before) in
     let loop = looped slot in
-    record { fits = moves-fit (begun (loop .before) .pre) (loop .before .loop .inv) (loop .loop-test .taken) (slot .slot .ensures) }
+    record { fits = moves-fit (still (begun (loop .before) .pre) (freed (loop .before) .release .ensures)) (loop .before .loop .inv) (loop .loop-test .taken) (slot .slot .ensures) }
 
 cast-misses : tie.Need-cast-misses Inv-loop μ-loop
 cast-misses c = omega arith
@@ -79,13 +93,13 @@ add-misses : tie.Need-add-misses Inv-loop μ-loop
 add-misses c =
     let slot = slotted (c .before .before .before .before) in
     let loop = looped slot in
-    record { fits = misses-fit (begun (loop .before) .pre) (loop .before .loop .inv) (loop .loop-test .taken) (slot .slot .ensures) }
+    record { fits = misses-fit (still (begun (loop .before) .pre) (freed (loop .before) .release .ensures)) (loop .before .loop .inv) (loop .loop-test .taken) (slot .slot .ensures) }
 
 add-place : tie.Need-add-place Inv-loop μ-loop
 add-place c =
     let loop = looped (slotted (c .before .before .before .before)) in
     let at = loop .before in
-    omega (arith, place-room (begun at .pre) (at .loop .inv) (loop .loop-test .taken), out-size (begun at .pre) (at .loop .inv), at .before .frame-length .ensures, begun at .good)
+    omega (arith, place-room (still (begun at .pre) (freed at .release .ensures)) (at .loop .inv) (loop .loop-test .taken), out-size (still (begun at .pre) (freed at .release .ensures)) (at .loop .inv), framed at .frame-length .ensures, begun at .good)
 
 add-k : tie.Need-add-k Inv-loop μ-loop
 add-k c =
@@ -100,31 +114,70 @@ loop-again c =
     let frame = c .before .before .before .before in
     let slot = slotted frame in
     let loop = looped slot in
-    turn (begun (loop .before) .pre) (loop .before .loop .inv) (loop .loop-test .taken) (slot .slot .ensures) (loop .before .before .frame-length .ensures) (frame .write-slot .ensures)
+    turn (still (begun (loop .before) .pre) (freed (loop .before) .release .ensures)) (loop .before .loop .inv) (loop .loop-test .taken) (slot .slot .ensures) (framed (loop .before) .frame-length .ensures) (frame .write-slot .ensures)
+
+array-share-prefix-none : tie.Need-array-share-prefix-none Inv-loop μ-loop
+array-share-prefix-none c = few-tasks (c .before .before .before .before .before .before .before .before .before .before .before .before .before .before .before .before .before .before .before .before .pre)
+
+slice-aggregate-release : tie.Need-slice-aggregate-release Inv-loop μ-loop
+slice-aggregate-release c = sym (length-take-le _ _ (few-tasks (c .before .before .before .before .before .before .before .before .before .before .before .before .before .before .before .before .before .before .before .before .before .pre)))
+
+release-requires-2 : tie.Need-release-requires-2 Inv-loop μ-loop
+release-requires-2 c κs =
+    let loop = c .before .before .before .before in
+    let pre = begun loop .pre in
+    let e = freed loop .release .ensures in
+    last-lengths (still pre e) (loop .loop .inv) _ (ap length (sym (told pre e))) (few-tasks pre)
 
 same-length : tie.Need-same-length Inv-loop μ-loop
-same-length c = phase-size (begun (c .before) .pre) (c .before .loop .inv)
+same-length c =
+    let loop = c .before .before .before .before .before .before .before in
+    let pre = still (begun loop .pre) (freed loop .release .ensures) in
+    phase-size pre (loop .loop .inv)
 
 same-length-2 : tie.Need-same-length-2 Inv-loop μ-loop
-same-length-2 c = left-size (begun (c .before) .pre) (c .before .loop .inv)
+same-length-2 c =
+    let loop = c .before .before .before .before .before .before .before in
+    let pre = begun loop .pre in
+    let e = freed loop .release .ensures in
+    left-end (still pre e) (loop .loop .inv) (length (begun loop .args .left .now)) (c .before .before .release2 .ensures) ∙ ap length (told pre e)
 
 same-length-3 : tie.Need-same-length-3 Inv-loop μ-loop
-same-length-3 c = last-size (begun (c .before) .pre) (c .before .loop .inv)
+same-length-3 c =
+    let loop = c .before .before .before .before .before .before .before in
+    let pre = still (begun loop .pre) (freed loop .release .ensures) in
+    last-size pre (loop .loop .inv)
 
 same-length-4 : tie.Need-same-length-4 Inv-loop μ-loop
-same-length-4 c = done-size (begun (c .before) .pre) (c .before .loop .inv)
+same-length-4 c =
+    let loop = c .before .before .before .before .before .before .before in
+    let pre = still (begun loop .pre) (freed loop .release .ensures) in
+    done-size pre (loop .loop .inv)
 
 same-length-5 : tie.Need-same-length-5 Inv-loop μ-loop
-same-length-5 c = dropped-size (begun (c .before) .pre) (c .before .loop .inv)
+same-length-5 c =
+    let loop = c .before .before .before .before .before .before .before in
+    let pre = still (begun loop .pre) (freed loop .release .ensures) in
+    dropped-size pre (loop .loop .inv)
 
 same-length-6 : tie.Need-same-length-6 Inv-loop μ-loop
-same-length-6 c = c .before .loop .inv .wide
+same-length-6 c =
+    let loop = c .before .before .before .before .before .before .before in
+    let pre = still (begun loop .pre) (freed loop .release .ensures) in
+    loop .loop .inv .wide
 
 same-length-7 : tie.Need-same-length-7 Inv-loop μ-loop
-same-length-7 c = out-size (begun (c .before) .pre) (c .before .loop .inv)
+same-length-7 c =
+    let loop = c .before .before .before .before .before .before .before in
+    let pre = still (begun loop .pre) (freed loop .release .ensures) in
+    out-size pre (loop .loop .inv)
 
 returns : tie.Need-returns Inv-loop μ-loop
-returns c = ended (begun (c .before) .pre) (c .before .loop .inv) (c .loop-test .left)
+returns c =
+    let loop = c .before .before .before .before .before .before .before in
+    let pre = begun loop .pre in
+    let e = freed loop .release .ensures in
+    rw (told pre e) at (ended (still pre e) (loop .loop .inv) (c .before .before .before .before .before .before .loop-test .left) (length (begun loop .args .left .now)) (c .before .before .release2 .ensures))
 
 pub run-slots-spec : {M : Type 1} → statement M
 run-slots-spec =
@@ -133,6 +186,7 @@ run-slots-spec =
     Inv-loop
     μ-loop
     frame-length-requires
+    release-requires
     loop-holds
     slot-requires
     sub-write-slot
@@ -148,6 +202,9 @@ run-slots-spec =
     add-k
     loop-less
     loop-again
+    array-share-prefix-none
+    slice-aggregate-release
+    release-requires-2
     same-length
     same-length-2
     same-length-3
