@@ -7,7 +7,7 @@ use tables::table::Row;
 use tables::table::TableAnswer;
 ghost use mathlib.Core.Path.{_≡_};
 ghost use mathlib.Core.List.{map};
-ghost use Prim.Native.Nat.{min};
+ghost use Prim.Native.Nat.{min, _≤_, _<_};
 ghost use lib.ListN.{take, set};
 ghost use Rattle.rules.specs.Tables.{takeList};
 ghost use Rattle.tables.specs.Views.{viewRow, tableAnswer};
@@ -24,14 +24,13 @@ fn no_pairs() -> [[u32; 2]; PLACES]
     [[0, 0]; PLACES]
 }
 
-// Row i at its place, if there is one.
+// Row i at its place.
 fn put(pairs: [[u32; 2]; PLACES], i: usize, row: Row) -> [[u32; 2]; PLACES]
+    requires { ⌜ i < places ⌝ }
     ensures { λ r. ⌜ r ≡ set pairs i (pairOf row) ⌝ }
 {
     let mut now = pairs;
-    if i < PLACES {
-        now[i] = [row.c, row.t];
-    }
+    now[i] = [row.c, row.t];
     now
 }
 
@@ -42,23 +41,24 @@ fn placed(n: usize) -> usize
     if n < PLACES { n } else { PLACES }
 }
 
-// The table of the first n pairs, or of all where n is past them.
+// The table of the rows in the first n places.
 fn take_pairs(m: u32, pairs: [[u32; 2]; PLACES], n: usize) -> TableAnswer
-    ensures { λ r. ⌜ r ≡ tableAnswer (takeList m (listRows (take (min n places) pairs))) ⌝ }
+    requires { ⌜ n ≤ places ⌝ }
+    ensures { λ r. ⌜ r ≡ tableAnswer (takeList m (listRows (take n pairs))) ⌝ }
 {
-    let count = placed(n);
-    list::take_list(m, &pairs[..count])
+    list::take_list(m, &pairs[..n])
 }
 
-// The table of a list of rows: the rows in order, and then the tests of a list.
+// The table of a list of rows: the rows in order, and then the tests of a list. Rows past the last place are not looked at.
 pub fn take_rows(m: u32, rows: &[Row]) -> TableAnswer
     ensures { λ r. ⌜ r ≡ tableAnswer (takeList m (map viewRow (now (rows .entry)))) ⌝ }
 {
+    let n = placed(rows.len());
     let mut pairs = no_pairs();
     let mut i: usize = 0;
-    while i < rows.len() {
+    while i < n {
         pairs = put(pairs, i, rows[i]);
         i = i + 1;
     }
-    take_pairs(m, pairs, i)
+    take_pairs(m, pairs, n)
 }

@@ -41,7 +41,7 @@ use denote.Ref.{RefT, now}
 use denote.Signature.{plain}
 use denote.Slice.{sliceTy, sliceVal, ShrSlice, Room, slice-vals, shr-slice-tells, shr-slice-copy}
 use denote.Index.{place-is, elem-out, elem-back, looks-slice, shuts-slice}
-use denote.Steps.{owned, peeks, facts, heard, nothing}
+use denote.Steps.{only, owned, peeks, facts, heard, nothing}
 use denote.Struct.Laws as LL
 use denote.Triple.Statement.{Contract, Triple}
 use denote.Triple.Call.{calls-at}
@@ -61,11 +61,15 @@ use Rattle.tables.proofs.table.Row.Laws as R′
 use Rattle.tables.proofs.table.TableAnswer as B
 use Rattle.tables.proofs.table.TableAnswer.Laws as B′
 use Rattle.lent.specs.Pairs.{places, pairOf, noPairs}
-use Rattle.lent.proofs.Copies.{Copied, copied-starts, copied-more, table-same}
+use Rattle.lent.proofs.Copies.{fitting, Copied, copied-starts, copied-more, table-same}
 use Rattle.lent.proofs.rows.no_pairs as no-pairs
 use Rattle.lent.proofs.rows.no_pairs.Symbol as no-pairs-def
 use Rattle.lent.proofs.rows.no_pairs.Symbol.{name as #lent·rows·no-pairs}
 use Rattle.lent.proofs.rows.no_pairs.Met as no-pairs-thm
+use Rattle.lent.proofs.rows.placed as placed
+use Rattle.lent.proofs.rows.placed.Symbol as placed-def
+use Rattle.lent.proofs.rows.placed.Symbol.{name as #lent·rows·placed}
+use Rattle.lent.proofs.rows.placed.Met as placed-thm
 use Rattle.lent.proofs.rows.put as put
 use Rattle.lent.proofs.rows.put.Symbol as put-def
 use Rattle.lent.proofs.rows.put.Symbol.{name as #lent·rows·put}
@@ -91,11 +95,23 @@ abbrev slice-ty : Ty
 slice-ty = sliceTy (tyRef (named 0) imm (pointee (R.the-row .written)))
 
 -- ---- numbers
-place-fits : (i n : ℕ) → i < n → n * 8 < 2 ^ 63 → i * 8 < 2 ^ 64
-place-fits i n l g = omega arith
+place-fits : (i n k : ℕ) → i < min n k → n * 8 < 2 ^ 63 → i * 8 < 2 ^ 64
+place-fits i n k l g = omega arith
 
-next-fits : (i n : ℕ) → i < n → n < 2 ^ 64 → i + 1 < 2 ^ 64
-next-fits i n l g = omega arith
+next-fits : (i n k : ℕ) → i < min n k → n < 2 ^ 64 → i + 1 < 2 ^ 64
+next-fits i n k l g = omega arith
+
+fitting-fits : (n k : ℕ) → n < 2 ^ 64 → min n k < 2 ^ 64
+fitting-fits n k g = omega arith
+
+in-list : (i n k : ℕ) → i < min n k → i < n
+in-list i n k l = omega arith
+
+in-place : (i n k : ℕ) → i < min n k → i < k
+in-place i n k l = omega arith
+
+no-more-than : (n k : ℕ) → min n k ≤ k
+no-more-than n k = omega arith
 
 not-less : (i n : ℕ) → i ≡ n → i < n → ⊥
 not-less i n e l = omega arith
@@ -138,6 +154,9 @@ module _ {M : Type 1} (𝓤 : URA M) (H : Heap 𝓤) (A : Atoms 𝓤) (mem : Mem
   abbrev NoPairs : Contract 𝓤
   NoPairs = tripleOf 𝓤 H A no-pairs.signature (no-pairs.spec 𝓤 H A mem run)
 
+  abbrev Placed : Contract 𝓤
+  Placed = tripleOf 𝓤 H A placed.signature (placed.spec 𝓤 H A mem run)
+
   abbrev Put : Contract 𝓤
   Put = tripleOf 𝓤 H A put.signature (put.spec 𝓤 H A mem run)
 
@@ -148,12 +167,15 @@ module _ {M : Type 1} (𝓤 : URA M) (H : Heap 𝓤) (A : Atoms 𝓤) (mem : Mem
   no-pairs-said : (r : List (List ℕ)) → ent 𝓤 (ensured 𝓤 H A no-pairs.ended (no-pairs.clauses 𝓤 H A mem run) tt tt tt r) (fact 𝓤 (r ≡ noPairs))
   no-pairs-said r = exE 𝓤 _ (λ ws. snd∗ 𝓤 (sem 𝓤 H A (lasts no-pairs.ended tt tt ws)) (fact 𝓤 (r ≡ noPairs)))
 
+  placed-said : (n r : ℕ) → ent 𝓤 (ensured 𝓤 H A placed.ended (placed.clauses 𝓤 H A mem run) tt (n, tt) tt r) (fact 𝓤 (r ≡ min n places))
+  placed-said n r = exE 𝓤 _ (λ ws. snd∗ 𝓤 (sem 𝓤 H A (lasts placed.ended tt (n, tt) ws)) (fact 𝓤 (r ≡ min n places)))
+
   put-said : (ps : List (List ℕ)) (i : ℕ) (row : Row) (r : List (List ℕ)) → ent 𝓤 (ensured 𝓤 H A put.ended (put.clauses 𝓤 H A mem run) tt (ps, (i, (row, tt))) tt r) (fact 𝓤 (r ≡ set ps i (pairOf row)))
   put-said ps i row r = exE 𝓤 _ (λ ws. snd∗ 𝓤 (sem 𝓤 H A (lasts put.ended tt (ps, (i, (row, tt))) ws)) (fact 𝓤 (r ≡ set ps i (pairOf row))))
 
   take-pairs-said : (m : ℕ) (ps : List (List ℕ)) (n : ℕ) (r : TableAnswer)
-      → ent 𝓤 (ensured 𝓤 H A take-pairs.ended (take-pairs.clauses 𝓤 H A mem run) tt (m, (ps, (n, tt))) tt r) (fact 𝓤 (r ≡ tableAnswer (takeList m (listRows (take (min n places) ps)))))
-  take-pairs-said m ps n r = exE 𝓤 _ (λ ws. snd∗ 𝓤 (sem 𝓤 H A (lasts take-pairs.ended tt (m, (ps, (n, tt))) ws)) (fact 𝓤 (r ≡ tableAnswer (takeList m (listRows (take (min n places) ps))))))
+      → ent 𝓤 (ensured 𝓤 H A take-pairs.ended (take-pairs.clauses 𝓤 H A mem run) tt (m, (ps, (n, tt))) tt r) (fact 𝓤 (r ≡ tableAnswer (takeList m (listRows (take n ps)))))
+  take-pairs-said m ps n r = exE 𝓤 _ (λ ws. snd∗ 𝓤 (sem 𝓤 H A (lasts take-pairs.ended tt (m, (ps, (n, tt))) ws)) (fact 𝓤 (r ≡ tableAnswer (takeList m (listRows (take n ps))))))
 
 module _ {M : Type 1} (𝓤 : URA M) (H : Heap 𝓤) (A : Atoms 𝓤) (W : Given 𝓤 H A) where
   pairs-lawful : Lawful 𝓤 H A Pairs
@@ -165,6 +187,10 @@ module _ {M : Type 1} (𝓤 : URA M) (H : Heap 𝓤) (A : Atoms 𝓤) (W : Given
 module _ {M : Type 1} (𝓤 : URA M) (H : Heap 𝓤) (A : Atoms 𝓤) (W : Given 𝓤 H A) (mem : Memory → SProp 𝓤) (run : Routine → Fun 𝓤) (κ : Lft) (q : Share) (m b o : ℕ) (γ : GName) (ys : List Row) where
   abbrev n : ℕ
   n = length ys
+
+  -- how many turns there are
+  abbrev count : ℕ
+  count = fitting ys
 
   abbrev rows : RefT (List Row)
   rows = record { ptr = (b, o); name = γ; now = ys }
@@ -199,98 +225,105 @@ module _ {M : Type 1} (𝓤 : URA M) (H : Heap 𝓤) (A : Atoms 𝓤) (W : Given
   goes-no-pairs : ent 𝓤 (emp 𝓤) (NoPairs 𝓤 H A mem run .pre to-no-pairs)
   goes-no-pairs = qed W [] ∵ nothing ! $ nothing ! $ join ! $ frame ! $ done !
 
+  abbrev to-placed : Placed 𝓤 H A mem run .Ghost
+  to-placed = ((tt, tt, tt, (n, tt), (vint w64 n ∷ [], tt)), tt)
+
+  goes-placed : n < 2 ^ 64 → ent 𝓤 (emp 𝓤) (Placed 𝓤 H A mem run .pre to-placed)
+  goes-placed fits =
+      qed W [] ∵ nothing ! $ owned ! usize (Is usize) (uint-makes 𝓤 H A W w64) n (vint w64 n ∷ []) (refl, fits) $ fjoin ! $ nothing ! $ join ! $ frame ! $ done !
+
   abbrev to-put : Reached ys → Row → Val → Put 𝓤 H A mem run .Ghost
   to-put s row v = ((tt, tt, tt, (s .pairs, (s .i, (row, tt))), (s .val ∷ [], (vint w64 (s .i) ∷ [], (v ∷ [], tt)))), tt)
 
-  goes-put : (s : Reached ys) (row : Row) (v : Val) → s .i < 2 ^ 64 → Is R.the-row row (v ∷ []) → ent 𝓤 (emp 𝓤) (Put 𝓤 H A mem run .pre (to-put s row v))
-  goes-put s row v fits is =
-      qed W [] ∵ nothing ! $ owned ! R.the-row (Is R.the-row) (LL.makes R.the-type R′.the-plain 𝓤 H A) row (v ∷ []) is $ fjoin ! $
+  goes-put : (s : Reached ys) (row : Row) (v : Val) → s .i < places → s .i < 2 ^ 64 → Is R.the-row row (v ∷ []) → ent 𝓤 (emp 𝓤) (Put 𝓤 H A mem run .pre (to-put s row v))
+  goes-put s row v there fits is =
+      qed W [] ∵ says ! there $ nothing ! $ owned ! R.the-row (Is R.the-row) (LL.makes R.the-type R′.the-plain 𝓤 H A) row (v ∷ []) is $ fjoin ! $
       owned ! usize (Is usize) (uint-makes 𝓤 H A W w64) (s .i) (vint w64 (s .i) ∷ []) (refl, fits) $ fjoin ! $
-      owned ! Pairs (Is Pairs) (pairs-makes 𝓤 H A W) (s .pairs) (s .val ∷ []) (s .is) $ fjoin ! $ nothing ! $ join ! $ frame ! $ done !
+      owned ! Pairs (Is Pairs) (pairs-makes 𝓤 H A W) (s .pairs) (s .val ∷ []) (s .is) $ fjoin ! $ nothing ! $ done !
 
   abbrev to-take-pairs : Reached ys → TakePairs 𝓤 H A mem run .Ghost
-  to-take-pairs s = ((tt, tt, tt, (m, (s .pairs, (s .i, tt))), (vint w32 m ∷ [], (s .val ∷ [], (vint w64 (s .i) ∷ [], tt)))), tt)
+  to-take-pairs s = ((tt, tt, tt, (m, (s .pairs, (count, tt))), (vint w32 m ∷ [], (s .val ∷ [], (vint w64 count ∷ [], tt)))), tt)
 
-  goes-take-pairs : (s : Reached ys) → m < 2 ^ 32 → s .i < 2 ^ 64 → ent 𝓤 (emp 𝓤) (TakePairs 𝓤 H A mem run .pre (to-take-pairs s))
+  goes-take-pairs : (s : Reached ys) → m < 2 ^ 32 → count < 2 ^ 64 → ent 𝓤 (emp 𝓤) (TakePairs 𝓤 H A mem run .pre (to-take-pairs s))
   goes-take-pairs s gm fits =
-      qed W [] ∵ nothing ! $ owned ! usize (Is usize) (uint-makes 𝓤 H A W w64) (s .i) (vint w64 (s .i) ∷ []) (refl, fits) $ fjoin ! $
+      qed W [] ∵ says ! (no-more-than n places) $ nothing ! $ owned ! usize (Is usize) (uint-makes 𝓤 H A W w64) count (vint w64 count ∷ []) (refl, fits) $ fjoin ! $
       owned ! Pairs (Is Pairs) (pairs-makes 𝓤 H A W) (s .pairs) (s .val ∷ []) (s .is) $ fjoin ! $
-      owned ! u32 (Is u32) (uint-makes 𝓤 H A W w32) m (vint w32 m ∷ []) (refl, gm) $ fjoin ! $ nothing ! $ join ! $ frame ! $ done !
+      owned ! u32 (Is u32) (uint-makes 𝓤 H A W w32) m (vint w32 m ∷ []) (refl, gm) $ fjoin ! $ nothing ! $ done !
 
   -- ---- the loop
   abbrev Nearer : Reached ys → Reached ys → Type 0
-  Nearer s t = n - s .i < n - t .i
+  Nearer s t = count - s .i < count - t .i
 
   Nearer-wf : WellFounded Nearer
-  Nearer-wf = InvImage·wf (λ (s : Reached ys). n - s .i) (Nat·lt-wfRel .wf)
+  Nearer-wf = InvImage·wf (λ (s : Reached ys). count - s .i) (Nat·lt-wfRel .wf)
 
   module _ (𝓣 : Tables 𝓤 H) (gm : m < 2 ^ 32) (gn : Room R.the-row n) (known-put : Triple 𝓤 (𝓣 .C #lent·rows·put) (Put 𝓤 H A mem run))
-      (known-take-pairs : Triple 𝓤 (𝓣 .C #lent·rows·take-pairs) (TakePairs 𝓤 H A mem run)) (l₀ l₁ l₂ l₃ l₄ l₅ l₆ l₇ l₈ : ℕ) where
+      (known-take-pairs : Triple 𝓤 (𝓣 .C #lent·rows·take-pairs) (TakePairs 𝓤 H A mem run)) (l₀ l₁ l₂ l₃ l₄ l₅ l₆ l₇ l₈ l₉ l₁₀ : ℕ) where
     abbrev C : Calls 𝓤 H
     C = 𝓣 .C
 
     abbrev Λ : Loops 𝓤 H
     Λ = 𝓣 .Λ
 
-    -- the locals: the result, m, rows, pairs, i, the length and then the place's bytes, the test, the place, and the row
+    -- the locals: the result, m, rows, n, pairs, i, the slice's length, the test, how far the place is from the first, the place, and the row
     abbrev En : Env 𝓤 H
-    En = (B′.mir, l₀) ∷ (tyInt w32, l₁) ∷ (slice-ty, l₂) ∷ (pairs-ty, l₃) ∷ (tyInt w64, l₄) ∷ (tyInt w64, l₅) ∷ (tyBool, l₆) ∷ (tyPtr, l₇) ∷ (R′.mir, l₈) ∷ []
+    En = (B′.mir, l₀) ∷ (tyInt w32, l₁) ∷ (slice-ty, l₂) ∷ (tyInt w64, l₃) ∷ (pairs-ty, l₄) ∷ (tyInt w64, l₅) ∷ (tyInt w64, l₆) ∷ (tyBool, l₇) ∷ (tyInt w64, l₈) ∷ (tyPtr, l₉) ∷ (R′.mir, l₁₀) ∷ []
 
     abbrev At : Reached ys → List (Item 𝓤)
-    At s = ‵ Shared ∷ ‵ (flft κ q) ∷ ‵ (froom R′.mir l₈ 0) ∷ ‵ (fdies R′.mir l₈) ∷ ‵ (froom tyPtr l₇ 0) ∷ ‵ (fdies tyPtr l₇) ∷ ‵ (froom tyBool l₆ 0) ∷ ‵ (fdies tyBool l₆)
-        ∷ ‵ (froom (tyInt w64) l₅ 0) ∷ ‵ (fdies (tyInt w64) l₅) ∷ ‵ (fat fullShare (tyInt w64) l₄ 0 (vint w64 (s .i))) ∷ ‵ (fdies (tyInt w64) l₄)
-        ∷ ‵ (fat fullShare pairs-ty l₃ 0 (s .val)) ∷ ‵ (fdies pairs-ty l₃) ∷ ‵ (fat fullShare slice-ty l₂ 0 (sliceVal (b, o) n)) ∷ ‵ (fdies slice-ty l₂)
-        ∷ ‵ (fat fullShare (tyInt w32) l₁ 0 (vint w32 m)) ∷ ‵ (fdies (tyInt w32) l₁) ∷ ‵ (froom B′.mir l₀ 0) ∷ ‵ (fdies B′.mir l₀) ∷ ‵ Own ∷ []
+    At s = ‵ Shared ∷ ‵ (flft κ q) ∷ ‵ (froom R′.mir l₁₀ 0) ∷ ‵ (fdies R′.mir l₁₀) ∷ ‵ (froom tyPtr l₉ 0) ∷ ‵ (fdies tyPtr l₉) ∷ ‵ (froom (tyInt w64) l₈ 0) ∷ ‵ (fdies (tyInt w64) l₈)
+        ∷ ‵ (froom tyBool l₇ 0) ∷ ‵ (fdies tyBool l₇) ∷ ‵ (fat fullShare (tyInt w64) l₆ 0 (vint w64 n)) ∷ ‵ (fdies (tyInt w64) l₆) ∷ ‵ (fat fullShare (tyInt w64) l₅ 0 (vint w64 (s .i))) ∷ ‵ (fdies (tyInt w64) l₅)
+        ∷ ‵ (fat fullShare pairs-ty l₄ 0 (s .val)) ∷ ‵ (fdies pairs-ty l₄) ∷ ‵ (fat fullShare (tyInt w64) l₃ 0 (vint w64 count)) ∷ ‵ (fdies (tyInt w64) l₃)
+        ∷ ‵ (fat fullShare slice-ty l₂ 0 (sliceVal (b, o) n)) ∷ ‵ (fdies slice-ty l₂) ∷ ‵ (fat fullShare (tyInt w32) l₁ 0 (vint w32 m)) ∷ ‵ (fdies (tyInt w32) l₁)
+        ∷ ‵ (froom B′.mir l₀ 0) ∷ ‵ (fdies B′.mir l₀) ∷ ‵ Own ∷ []
 
-    -- a turn's postcondition: it ends nearer to n, or the loop is left and the rest of the body runs
+    -- a turn's postcondition: it ends nearer to the last place, or the loop is left and the rest of the body runs
     abbrev Turned : Reached ys → Out → SProp 𝓤
-    Turned s = afterTurn 𝓤 H (Below 𝓤 H A Nearer At s) (afterBlock 𝓤 H (afterSeq 𝓤 H (Wp 𝓤 H C Λ En body.t-4 (atReturn 𝓤 H En Post)) (atReturn 𝓤 H En Post)))
-
-    fits : (s : Reached ys) → s .i < 2 ^ 64
-    fits s = lt-of-le-of-lt (s .copied .within) (gn .0)
-
-    -- what is made of the pairs, and that it is what is made of the rows where all are copied
-    abbrev made : Reached ys → TableAnswer
-    made s = tableAnswer (takeList m (listRows (take (min (s .i) places) (s .pairs))))
-
-    all-copied : (s : Reached ys) → s .i ≡ n → made s ≡ tableAnswer (takeList m (map viewRow ys))
-    all-copied s e =
-        ap (λ (k : ℕ). tableAnswer (takeList m (listRows (take (min k places) (s .pairs))))) e
-        ∙ table-same m ys (s .pairs) (subst (λ (k : ℕ). Copied ys (s .pairs) k) e (s .copied))
+    Turned s = afterTurn 𝓤 H (Below 𝓤 H A Nearer At s) (afterBlock 𝓤 H (afterSeq 𝓤 H (Wp 𝓤 H C Λ En body.t-6 (atReturn 𝓤 H En Post)) (atReturn 𝓤 H En Post)))
 
     -- a turn that copies one row
-    more : (s : Reached ys) → s .i < n → Sq W (At s) (runs C Λ En body.turn-1 (anyQ (Turned s)))
+    more : (s : Reached ys) → s .i < count → Sq W (At s) (runs C Λ En body.turn-1 (anyQ (Turned s)))
     unfolding afterTurn
     more s l =
-        assigns ! (of-opd ! (load ! (from ! (fld ! refl (stop !))) (look-in ! 14 (sub ! 1 refl (whole !))))) (from ! (stop !)) (init ! 8 refl (tt, record { fits = gn .0 })) $
-        assigns ! (bin ! (load ! (from ! (stop !)) (look ! 10 refl)) (load ! (from ! (stop !)) (look ! 8 refl)) tt) (from ! (stop !)) (init ! 6 refl (tt, tt)) $
-        rewrite ! 6 (λ (t : Bool). ‵ (fat fullShare tyBool l₆ 0 (vbool t))) (holds (ltb (s .i) n) (lt→ltb (s .i) n l)) refl $
-        stays ! (load ! (from ! (stop !)) (look ! 6 refl)) $
-        assigns ! (bin ! (load ! (from ! (stop !)) (look ! 10 refl)) (lit ! tt) (record { fits = place-fits (s .i) n l (gn .1) })) (from ! (stop !)) (store ! 8 refl (tt, record { fits = place-fits (s .i) n l (gn .1) })) $
-        assigns ! (bin ! (load ! (from ! (fld ! refl (stop !))) (look-in ! 14 (sub ! 0 refl (whole !)))) (load ! (from ! (stop !)) (look ! 8 refl)) tt) (from ! (stop !)) (init ! 4 refl (tt, tt)) $
-        rewrite ! 4 (λ (p : ℕ). ‵ (fat fullShare tyPtr l₇ 0 (vptr b p))) (sym (place-is 8 o (s .i))) refl $
+        assigns ! (bin ! (load ! (from ! (stop !)) (look ! 12 refl)) (load ! (from ! (stop !)) (look ! 16 refl)) tt) (from ! (stop !)) (init ! 8 refl (tt, tt)) $
+        rewrite ! 8 (λ (t : Bool). ‵ (fat fullShare tyBool l₇ 0 (vbool t))) (holds (ltb (s .i) count) (lt→ltb (s .i) count l)) refl $
+        stays ! (load ! (from ! (stop !)) (look ! 8 refl)) $
+        assigns ! (bin ! (load ! (from ! (stop !)) (look ! 12 refl)) (lit ! tt) (record { fits = far })) (from ! (stop !)) (init ! 6 refl (tt, record { fits = far })) $
+        assigns ! (bin ! (load ! (from ! (fld ! refl (stop !))) (look-in ! 18 (sub ! 0 refl (whole !)))) (load ! (from ! (stop !)) (look ! 6 refl)) tt) (from ! (stop !)) (init ! 4 refl (tt, tt)) $
+        rewrite ! 4 (λ (p : ℕ). ‵ (fat fullShare tyPtr l₉ 0 (vptr b p))) (sym (place-is 8 o (s .i))) refl $
         looks-slice ! tt R.the-row (Is R.the-row) (shows 𝓤 H A R.the-row) (LL.vals R.the-type R′.the-laws) (LL.tells R.the-type R′.the-laws) (LL.copy R.the-type R′.the-copy 𝓤 H A W) ys b o (λ q′.
-        elem-out ! R.the-row (Is R.the-row) (shows 𝓤 H A R.the-row) (LL.vals R.the-type R′.the-laws) (LL.tells R.the-type R′.the-laws) q′ ys (s .i) zeroRow b o l (λ is.
-        -- [the row; what it owns; the others; what shuts; the fractured borrow; room for _8; …; _7; …; _6; …; _5; …; _4; …; _3; …; _2; …; _1; …; room for _0; …]
+        elem-out ! R.the-row (Is R.the-row) (shows 𝓤 H A R.the-row) (LL.vals R.the-type R′.the-laws) (LL.tells R.the-type R′.the-laws) q′ ys (s .i) zeroRow b o listed (λ is.
+        -- [the row; what it owns; the others; what shuts; the fractured borrow; room for _10; …; _9; …]
         assigns ! (of-opd ! (load ! (from ! (hop ! (look ! 7 refl) (stop !))) (look-raw ! 0 refl))) (from ! (stop !)) (init ! 5 refl (LL.lawful R.the-type R′.the-laws 𝓤 H A W .typed row _ is .0)) $
-        elem-back ! R.the-row q′ ys (s .i) zeroRow (LL.vals R.the-type R′.the-laws row) b o l $ shuts-slice ! tt R.the-row q′ ys b o $
-        nothing ! $ use1 W (raw (Put 𝓤 H A mem run .pre (to-put s row v))) (goes-put s row v (fits s) is) $
+        elem-back ! R.the-row q′ ys (s .i) zeroRow (LL.vals R.the-type R′.the-laws row) b o listed $ shuts-slice ! tt R.the-row q′ ys b o $
+        nothing ! $ use1 W (raw (Put 𝓤 H A mem run .pre (to-put s row v))) (goes-put s row v (in-place (s .i) n places l) index is) $
         calls-at ! (fmOf 𝓤 H (W .laws) 𝓣) (Put 𝓤 H A mem run) known-put (to-put s row v)
-        (and-then ! (load ! (from ! (stop !)) (look ! 13 refl)) (and-then ! (load ! (from ! (stop !)) (look ! 11 refl)) (and-then ! (load ! (from ! (stop !)) (look ! 3 refl)) (no-more !)))) (λ u.
+        (and-then ! (load ! (from ! (stop !)) (look ! 15 refl)) (and-then ! (load ! (from ! (stop !)) (look ! 13 refl)) (and-then ! (load ! (from ! (stop !)) (look ! 3 refl)) (no-more !)))) (λ u.
         use1 W (later (some (λ (r : List (List ℕ)). (‵ ftrue ⊛ ‵ (Pairs .own r (u ∷ []))) ⊛ raw (ensured 𝓤 H A put.ended (put.clauses 𝓤 H A mem run) tt (s .pairs, (s .i, (row, tt))) tt r)))) (id⊢ 𝓤 _) $
         await ! tt $ pick ! (λ r. split ! $ move ! (1 ∷ []) $ use1 W (raw (fact 𝓤 (r ≡ set (s .pairs) (s .i) (pairOf row)))) (put-said 𝓤 H A mem run (s .pairs) (s .i) row r) $
         heard ! (r ≡ set (s .pairs) (s .i) (pairOf row)) (λ e. split ! $ drop ! $ facts ! Pairs (Is Pairs) (shows 𝓤 H A Pairs) r (u ∷ []) (λ held.
-        -- [the token; the fractured borrow; _8; …]
-        land ! (from ! (stop !)) (store ! 12 refl (pairs-lawful 𝓤 H A W .typed r _ held .0)) $
-        assigns-last ! (bin ! (load ! (from ! (stop !)) (look ! 10 refl)) (lit ! tt) (record { fits = next-fits (s .i) n l (gn .0) })) (from ! (stop !)) (store ! 10 refl (tt, record { fits = next-fits (s .i) n l (gn .0) })) $
+        -- [the token; the fractured borrow; _10; …]
+        land ! (from ! (stop !)) (store ! 14 refl (pairs-lawful 𝓤 H A W .typed r _ held .0)) $
+        assigns-last ! (bin ! (load ! (from ! (stop !)) (look ! 12 refl)) (lit ! tt) (record { fits = further })) (from ! (stop !)) (store ! 12 refl (tt, record { fits = further })) $
         forget ! 2 refl $ forget ! 4 refl $ forget ! 6 refl $ forget ! 8 refl $ move ! (1 ∷ []) $
-        again ! Nearer At s (next r u e held) (nearer (s .i) n l)))))))
+        again ! Nearer At s (next r u e held) (nearer (s .i) count l)))))))
       where
         row : Row
         row = getD ys (s .i) zeroRow
 
         v : Val
         v = LL.tuple-val R.the-type R′.the-laws (R.the-type .to row)
+
+        listed : s .i < n
+        listed = in-list (s .i) n places l
+
+        index : s .i < 2 ^ 64
+        index = lt-of-le-of-lt (s .copied .within) (fitting-fits n places (gn .0))
+
+        far : s .i * 8 < 2 ^ 64
+        far = place-fits (s .i) n places l (gn .1)
+
+        further : s .i + 1 < 2 ^ 64
+        further = next-fits (s .i) n places l (gn .0)
 
         next : (r : List (List ℕ)) (u : Val) → r ≡ set (s .pairs) (s .i) (pairOf row) → Is Pairs r (u ∷ []) → Reached ys
         next r u e held = record {
@@ -302,59 +335,67 @@ module _ {M : Type 1} (𝓤 : URA M) (H : Heap 𝓤) (A : Atoms 𝓤) (W : Given
         }
 
     -- the turn that leaves the loop, and the rest of the body
-    ends : (s : Reached ys) → s .i ≡ n → Sq W (At s) (runs C Λ En body.turn-1 (anyQ (Turned s)))
+    ends : (s : Reached ys) → s .i ≡ count → Sq W (At s) (runs C Λ En body.turn-1 (anyQ (Turned s)))
     unfolding afterTurn
     ends s e =
-        assigns ! (of-opd ! (load ! (from ! (fld ! refl (stop !))) (look-in ! 14 (sub ! 1 refl (whole !))))) (from ! (stop !)) (init ! 8 refl (tt, record { fits = gn .0 })) $
-        assigns ! (bin ! (load ! (from ! (stop !)) (look ! 10 refl)) (load ! (from ! (stop !)) (look ! 8 refl)) tt) (from ! (stop !)) (init ! 6 refl (tt, tt)) $
-        rewrite ! 6 (λ (t : Bool). ‵ (fat fullShare tyBool l₆ 0 (vbool t))) (fails (ltb (s .i) n) (λ a. not-less (s .i) n e (ltb→lt (s .i) n a))) refl $
-        leaves-loop ! (load ! (from ! (stop !)) (look ! 6 refl)) $ exec ! C Λ En body.t-4 (atRet En Post) $
-        nothing ! $ use1 W (raw (TakePairs 𝓤 H A mem run .pre (to-take-pairs s))) (goes-take-pairs s gm (fits s)) $
+        assigns ! (bin ! (load ! (from ! (stop !)) (look ! 12 refl)) (load ! (from ! (stop !)) (look ! 16 refl)) tt) (from ! (stop !)) (init ! 8 refl (tt, tt)) $
+        rewrite ! 8 (λ (t : Bool). ‵ (fat fullShare tyBool l₇ 0 (vbool t))) (fails (ltb (s .i) count) (λ a. not-less (s .i) count e (ltb→lt (s .i) count a))) refl $
+        leaves-loop ! (load ! (from ! (stop !)) (look ! 8 refl)) $ exec ! C Λ En body.t-6 (atRet En Post) $
+        nothing ! $ use1 W (raw (TakePairs 𝓤 H A mem run .pre (to-take-pairs s))) (goes-take-pairs s gm (fitting-fits n places (gn .0))) $
         calls-at ! (fmOf 𝓤 H (W .laws) 𝓣) (TakePairs 𝓤 H A mem run) known-take-pairs (to-take-pairs s)
-        (and-then ! (load ! (from ! (stop !)) (look ! 17 refl)) (and-then ! (load ! (from ! (stop !)) (look ! 13 refl)) (and-then ! (load ! (from ! (stop !)) (look ! 11 refl)) (no-more !)))) (λ u.
-        use1 W (later (some (λ (r : TableAnswer). (‵ ftrue ⊛ ‵ (B.the-row .own r (u ∷ []))) ⊛ raw (ensured 𝓤 H A take-pairs.ended (take-pairs.clauses 𝓤 H A mem run) tt (m, (s .pairs, (s .i, tt))) tt r)))) (id⊢ 𝓤 _) $
-        await ! tt $ pick ! (λ r. split ! $ move ! (1 ∷ []) $ use1 W (raw (fact 𝓤 (r ≡ made s))) (take-pairs-said 𝓤 H A mem run m (s .pairs) (s .i) r) $
-        heard ! (r ≡ made s) (λ told. split ! $ drop ! $ peeks ! B.the-row (Is B.the-row) (shows 𝓤 H A B.the-row) r (u ∷ []) (λ is.
-        -- [the result; the fractured borrow; the token; room for _8; …; room for _7; …; _6; …; _5; …; _4; …; _3; …; _2; …; _1; …; room for _0; …; what rows owns]
-        land ! (from ! (stop !)) (init ! 19 refl (LL.lawful B.the-type B′.the-laws 𝓤 H A W .typed r _ is .0)) $
-        returns ! (look ! 19 refl) $ forget ! 7 refl $ forget ! 9 refl $ forget ! 11 refl $ forget ! 13 refl $ forget ! 15 refl $ forget ! 17 refl $ forget ! 19 refl $
-        move ! (19 ∷ 20 ∷ []) $ free1 ! $ move ! (17 ∷ 18 ∷ []) $ free1 ! $ move ! (15 ∷ 16 ∷ []) $ free1 ! $ move ! (13 ∷ 14 ∷ []) $ free1 ! $ move ! (11 ∷ 12 ∷ []) $ free1 ! $
-        move ! (9 ∷ 10 ∷ []) $ free1 ! $ move ! (7 ∷ 8 ∷ []) $ free1 ! $ move ! (5 ∷ 6 ∷ []) $ free1 ! $ move ! (3 ∷ 4 ∷ []) $ free1 ! $ free0 ! $
-        keep ! (0 ∷ 2 ∷ 3 ∷ []) $ by ! (exits r u gm (told ∙ all-copied s e))))))
+        (and-then ! (load ! (from ! (stop !)) (look ! 21 refl)) (and-then ! (load ! (from ! (stop !)) (look ! 15 refl)) (and-then ! (load ! (from ! (stop !)) (look ! 17 refl)) (no-more !)))) (λ u.
+        use1 W (later (some (λ (r : TableAnswer). (‵ ftrue ⊛ ‵ (B.the-row .own r (u ∷ []))) ⊛ raw (ensured 𝓤 H A take-pairs.ended (take-pairs.clauses 𝓤 H A mem run) tt (m, (s .pairs, (count, tt))) tt r)))) (id⊢ 𝓤 _) $
+        await ! tt $ pick ! (λ r. split ! $ move ! (1 ∷ []) $ use1 W (raw (fact 𝓤 (r ≡ tableAnswer (takeList m (listRows (take count (s .pairs))))))) (take-pairs-said 𝓤 H A mem run m (s .pairs) count r) $
+        heard ! (r ≡ tableAnswer (takeList m (listRows (take count (s .pairs))))) (λ told. split ! $ drop ! $ peeks ! B.the-row (Is B.the-row) (shows 𝓤 H A B.the-row) r (u ∷ []) (λ is.
+        -- [the result; the fractured borrow; the token; room for _10; …; room for _0; …; what rows owns]
+        land ! (from ! (stop !)) (init ! 23 refl (LL.lawful B.the-type B′.the-laws 𝓤 H A W .typed r _ is .0)) $
+        returns ! (look ! 23 refl) $ forget ! 9 refl $ forget ! 11 refl $ forget ! 13 refl $ forget ! 15 refl $ forget ! 17 refl $ forget ! 19 refl $ forget ! 21 refl $ forget ! 23 refl $
+        move ! (23 ∷ 24 ∷ []) $ free1 ! $ move ! (21 ∷ 22 ∷ []) $ free1 ! $ move ! (19 ∷ 20 ∷ []) $ free1 ! $ move ! (17 ∷ 18 ∷ []) $ free1 ! $ move ! (15 ∷ 16 ∷ []) $ free1 ! $ move ! (13 ∷ 14 ∷ []) $ free1 ! $
+        move ! (11 ∷ 12 ∷ []) $ free1 ! $ move ! (9 ∷ 10 ∷ []) $ free1 ! $ move ! (7 ∷ 8 ∷ []) $ free1 ! $ move ! (5 ∷ 6 ∷ []) $ free1 ! $ move ! (3 ∷ 4 ∷ []) $ free1 ! $ free0 ! $
+        keep ! (0 ∷ 2 ∷ 3 ∷ []) $ by ! (exits r u gm (told ∙ table-same m ys (s .pairs) (subst (λ (k : ℕ). Copied ys (s .pairs) k) e (s .copied))))))))
 
     turns : (s : Reached ys) → Sq W (At s) (runs C Λ En body.turn-1 (anyQ (Turned s)))
-    turns s = elim (decLt (s .i) n) [ yes l ↦ more s l | no l ↦ ends s (reached (s .i) n (s .copied .within) l) ]
+    turns s = elim (decLt (s .i) count) [ yes l ↦ more s l | no l ↦ ends s (reached (s .i) count (s .copied .within) l) ]
 
     -- the loop, and the rest of the body
-    runs-on : (s : Reached ys) → Sq W (At s) (runs C Λ En body.t-3 (atRet En Post))
+    runs-on : (s : Reached ys) → Sq W (At s) (runs C Λ En body.t-5 (atRet En Post))
     runs-on s = first ! $ blocks ! $ loops ! 𝓣 Nearer Nearer-wf At turns s
 
   -- the MIR, up to the loop
-  walk : (𝓣 : Tables 𝓤 H) → m < 2 ^ 32 → Room R.the-row n → Triple 𝓤 (𝓣 .C #lent·rows·no-pairs) (NoPairs 𝓤 H A mem run) → Triple 𝓤 (𝓣 .C #lent·rows·put) (Put 𝓤 H A mem run)
+  walk : (𝓣 : Tables 𝓤 H) → m < 2 ^ 32 → Room R.the-row n → Triple 𝓤 (𝓣 .C #lent·rows·placed) (Placed 𝓤 H A mem run) → Triple 𝓤 (𝓣 .C #lent·rows·no-pairs) (NoPairs 𝓤 H A mem run) → Triple 𝓤 (𝓣 .C #lent·rows·put) (Put 𝓤 H A mem run)
       → Triple 𝓤 (𝓣 .C #lent·rows·take-pairs) (TakePairs 𝓤 H A mem run) → ent 𝓤 (onEntry 𝓤 H A f.signature (κ, tt) (q, tt) x at) (WpFn 𝓤 H (𝓣 .C) (𝓣 .Λ) code.function (vint w32 m ∷ sliceVal (b, o) n ∷ []) Post)
-  walk 𝓣 gm gn known-no-pairs known-put known-take-pairs =
+  walk 𝓣 gm gn known-placed known-no-pairs known-put known-take-pairs =
       qed W ((‵ (flft κ q) ⊛ ‵ ftrue) ∷ ‵ (owns (u32 ∷ ShrSlice (named 0) κ R.the-row ∷ []) x at) ∷ []) ∵ enter ! (𝓣 .C) (𝓣 .Λ) code.function (vint w32 m ∷ sliceVal (b, o) n ∷ []) _ $
-      alloc1 ! (λ l₀. alloc1 ! (λ l₁. alloc1 ! (λ l₂. alloc1 ! (λ l₃. alloc1 ! (λ l₄. alloc1 ! (λ l₅. alloc1 ! (λ l₆. alloc1 ! (λ l₇. alloc1 ! (λ l₈. alloc0 ! $ params1 ! $
-      pass1 ! (init ! 14 refl (tt, record { fits = gm })) $ pass1 ! (init ! 12 refl (tt, (tt, (record { fits = gn .0 }, tt)))) $ pass0 ! $
+      alloc1 ! (λ l₀. alloc1 ! (λ l₁. alloc1 ! (λ l₂. alloc1 ! (λ l₃. alloc1 ! (λ l₄. alloc1 ! (λ l₅. alloc1 ! (λ l₆. alloc1 ! (λ l₇. alloc1 ! (λ l₈. alloc1 ! (λ l₉. alloc1 ! (λ l₁₀. alloc0 ! $ params1 ! $
+      pass1 ! (init ! 18 refl (tt, record { fits = gm })) $ pass1 ! (init ! 16 refl (tt, (tt, (record { fits = gn .0 }, tt)))) $ pass0 ! $
+      assigns ! (of-opd ! (load ! (from ! (fld ! refl (stop !))) (look-in ! 16 (sub ! 1 refl (whole !))))) (from ! (stop !)) (init ! 8 refl (tt, record { fits = gn .0 })) $
+      nothing ! $ use1 W (raw (Placed 𝓤 H A mem run .pre to-placed)) (goes-placed (gn .0)) $
+      calls-at ! (fmOf 𝓤 H (W .laws) 𝓣) (Placed 𝓤 H A mem run) known-placed to-placed (and-then ! (load ! (from ! (stop !)) (look ! 9 refl)) (no-more !)) (λ w.
+      use1 W (later (some (λ (k : ℕ). (‵ ftrue ⊛ ‵ (usize .own k (w ∷ []))) ⊛ raw (ensured 𝓤 H A placed.ended (placed.clauses 𝓤 H A mem run) tt (n, tt) tt k)))) (id⊢ 𝓤 _) $
+      await ! tt $ pick ! (λ k. split ! $ move ! (1 ∷ []) $ use1 W (raw (fact 𝓤 (k ≡ count))) (placed-said 𝓤 H A mem run n k) $
+      heard ! (k ≡ count) (λ few. split ! $ drop ! $ facts ! usize (Is usize) (shows 𝓤 H A usize) k (w ∷ []) (λ num.
+      land ! (from ! (stop !)) (init ! 14 refl (uint-lawful 𝓤 H A W w64 .typed k _ num .0)) $
+      rewrite ! 14 (λ (t : Val). ‵ (fat fullShare (tyInt w64) l₃ 0 t)) (ap only (num .0) ∙ ap (vint w64) few) refl $
       nothing ! $ use1 W (raw (NoPairs 𝓤 H A mem run .pre to-no-pairs)) goes-no-pairs $
       calls-at ! (fmOf 𝓤 H (W .laws) 𝓣) (NoPairs 𝓤 H A mem run) known-no-pairs to-no-pairs (no-more !) (λ u.
       use1 W (later (some (λ (r : List (List ℕ)). (‵ ftrue ⊛ ‵ (Pairs .own r (u ∷ []))) ⊛ raw (ensured 𝓤 H A no-pairs.ended (no-pairs.clauses 𝓤 H A mem run) tt tt tt r)))) (id⊢ 𝓤 _) $
       await ! tt $ pick ! (λ r. split ! $ move ! (1 ∷ []) $ use1 W (raw (fact 𝓤 (r ≡ noPairs))) (no-pairs-said 𝓤 H A mem run r) $
       heard ! (r ≡ noPairs) (λ e. split ! $ drop ! $ facts ! Pairs (Is Pairs) (shows 𝓤 H A Pairs) r (u ∷ []) (λ held.
-      land ! (from ! (stop !)) (init ! 10 refl (pairs-lawful 𝓤 H A W .typed r _ held .0)) $
-      assigns ! (of-opd ! (lit ! tt)) (from ! (stop !)) (init ! 8 refl (tt, record { fits = lit< tt })) $
+      land ! (from ! (stop !)) (init ! 12 refl (pairs-lawful 𝓤 H A W .typed r _ held .0)) $
+      assigns ! (of-opd ! (lit ! tt)) (from ! (stop !)) (init ! 10 refl (tt, record { fits = lit< tt })) $
       -- what m owns is a fact; what rows owns is had twice, and of one the fractured borrow is kept
-      move ! (19 ∷ []) $ fsplit ! $ drop ! $ fsplit ! $ use1 W (‵ Own ⊛ ‵ Own) (shr-slice-copy 𝓤 H A W (named 0) κ R.the-row .twice rows (sliceVal (b, o) n ∷ [])) $ split ! $
-      fsplit ! $ drop ! $ fsplit ! $ drop ! $ move ! (21 ∷ []) $ split ! $
-      keep ! (2 ∷ 0 ∷ 5 ∷ 6 ∷ 7 ∷ 8 ∷ 9 ∷ 10 ∷ 11 ∷ 12 ∷ 13 ∷ 14 ∷ 15 ∷ 16 ∷ 17 ∷ 18 ∷ 19 ∷ 20 ∷ 21 ∷ 22 ∷ 3 ∷ []) $
-      runs-on 𝓣 gm gn known-put known-take-pairs l₀ l₁ l₂ l₃ l₄ l₅ l₆ l₇ l₈ (begun ys r u e held))))))))))))))
+      move ! (23 ∷ []) $ fsplit ! $ drop ! $ fsplit ! $ use1 W (‵ Own ⊛ ‵ Own) (shr-slice-copy 𝓤 H A W (named 0) κ R.the-row .twice rows (sliceVal (b, o) n ∷ [])) $ split ! $
+      fsplit ! $ drop ! $ fsplit ! $ drop ! $ move ! (25 ∷ []) $ split ! $
+      keep ! (2 ∷ 0 ∷ 5 ∷ 6 ∷ 7 ∷ 8 ∷ 9 ∷ 10 ∷ 11 ∷ 12 ∷ 13 ∷ 14 ∷ 15 ∷ 16 ∷ 17 ∷ 18 ∷ 19 ∷ 20 ∷ 21 ∷ 22 ∷ 23 ∷ 24 ∷ 25 ∷ 26 ∷ 3 ∷ []) $
+      runs-on 𝓣 gm gn known-put known-take-pairs l₀ l₁ l₂ l₃ l₄ l₅ l₆ l₇ l₈ l₉ l₁₀ (begun ys r u e held))))))))))))))))))))
 
-module _ {M : Type 1} (𝓤 : URA M) (H : Heap 𝓤) (A : Atoms 𝓤) (W : Given 𝓤 H A) (mem : Memory → SProp 𝓤) (run : Routine → Fun 𝓤) (𝓣 : Tables 𝓤 H) (known-no-pairs : Triple 𝓤 (𝓣 .C #lent·rows·no-pairs) (NoPairs 𝓤 H A mem run))
-    (known-put : Triple 𝓤 (𝓣 .C #lent·rows·put) (Put 𝓤 H A mem run)) (known-take-pairs : Triple 𝓤 (𝓣 .C #lent·rows·take-pairs) (TakePairs 𝓤 H A mem run)) where
+module _ {M : Type 1} (𝓤 : URA M) (H : Heap 𝓤) (A : Atoms 𝓤) (W : Given 𝓤 H A) (mem : Memory → SProp 𝓤) (run : Routine → Fun 𝓤) (𝓣 : Tables 𝓤 H) (known-placed : Triple 𝓤 (𝓣 .C #lent·rows·placed) (Placed 𝓤 H A mem run))
+    (known-no-pairs : Triple 𝓤 (𝓣 .C #lent·rows·no-pairs) (NoPairs 𝓤 H A mem run)) (known-put : Triple 𝓤 (𝓣 .C #lent·rows·put) (Put 𝓤 H A mem run))
+    (known-take-pairs : Triple 𝓤 (𝓣 .C #lent·rows·take-pairs) (TakePairs 𝓤 H A mem run)) where
   take-rows-walks : Walks 𝓤 H A f.ended stayed (WpFn 𝓤 H (𝓣 .C) (𝓣 .Λ) code.function) (f.clauses 𝓤 H A mem run)
   take-rows-walks = walked 𝓤 H A f.ended stayed (f.clauses 𝓤 H A mem run) (WpFn 𝓤 H (𝓣 .C) (𝓣 .Λ) code.function) (λ κs. (uint-vals w32, (slice-vals, tt))) (λ κs. (uint-tells w32, (shr-slice-tells (named 0) (κs .0) R.the-row, tt)))
       (λ κs qs bounds a g are. via 𝓤 _ (fst∗ 𝓤 _ (emp 𝓤))
-      (walk 𝓤 H A W mem run (κs .0) (qs .0) (a .0) (a .1 .0 .ptr .0) (a .1 .0 .ptr .1) (a .1 .0 .name) (a .1 .0 .now) 𝓣 (are .0 .1) (are .1 .0 .0 .1) known-no-pairs known-put known-take-pairs))
+      (walk 𝓤 H A W mem run (κs .0) (qs .0) (a .0) (a .1 .0 .ptr .0) (a .1 .0 .ptr .1) (a .1 .0 .name) (a .1 .0 .now) 𝓣 (are .0 .1) (are .1 .0 .0 .1) known-placed known-no-pairs known-put known-take-pairs))
 
   take-rows-meets : Meets 𝓤 H A f.signature (WpFn 𝓤 H (𝓣 .C) (𝓣 .Λ) code.function) (f.spec 𝓤 H A mem run)
   take-rows-meets = walk-meets 𝓤 H A f.ended stayed W (goes-none 𝓤 H A W 1 (λ _. u32) kept (λ κs x f. refl), (goes-none-slice 𝓤 H A W 1 (0 ∷ []) tt (plain (λ _. R.the-row)) kept, tt)) (f.clauses 𝓤 H A mem run)
@@ -366,6 +407,7 @@ take-rows-spec 𝓤 H 𝓜 𝓖 𝓡 =
     entered 𝓤 H (tripleOf 𝓤 H (𝓖 .A) f.signature (f.spec 𝓤 H (𝓖 .A) (𝓜 .mem) (𝓡 .run)))
     (tables 𝓤 H 𝓜 𝓡 code.env .C) (tables 𝓤 H 𝓜 𝓡 code.env .Λ) #lent·rows·take-rows code.function (code.unfolded 𝓤 H 𝓜 𝓡)
     (take-rows-meets 𝓤 H (𝓖 .A) (givenOf 𝓤 H 𝓜 𝓖) (𝓜 .mem) (𝓡 .run) (tablesOf 𝓤 H 𝓜 (tables 𝓤 H 𝓜 𝓡 code.env))
+    (cited 𝓤 H (Placed 𝓤 H (𝓖 .A) (𝓜 .mem) (𝓡 .run)) 𝓜 𝓡 code.env #lent·rows·placed placed-def.routine code.calls-lent·rows·placed (placed-thm.met 𝓤 H 𝓜 𝓖 𝓡))
     (cited 𝓤 H (NoPairs 𝓤 H (𝓖 .A) (𝓜 .mem) (𝓡 .run)) 𝓜 𝓡 code.env #lent·rows·no-pairs no-pairs-def.routine code.calls-lent·rows·no-pairs (no-pairs-thm.met 𝓤 H 𝓜 𝓖 𝓡))
     (cited 𝓤 H (Put 𝓤 H (𝓖 .A) (𝓜 .mem) (𝓡 .run)) 𝓜 𝓡 code.env #lent·rows·put put-def.routine code.calls-lent·rows·put (put-thm.met 𝓤 H 𝓜 𝓖 𝓡))
     (cited 𝓤 H (TakePairs 𝓤 H (𝓖 .A) (𝓜 .mem) (𝓡 .run)) 𝓜 𝓡 code.env #lent·rows·take-pairs take-pairs-def.routine code.calls-lent·rows·take-pairs (take-pairs-thm.met 𝓤 H 𝓜 𝓖 𝓡)))
