@@ -1,0 +1,2 @@
+// A table lent as a slice of row structs.
+pub mod rows;
