@@ -8,7 +8,6 @@ use lib.ListN.{length, take, drop, set, replicate, length-append, length-drop}
 use Rattle.laws.specs.Digits.{field}
 use Rattle.laws.proofs.Digits.{length-field}
 use Rattle.rules.specs.Frames.{lineFeed, fields, frame}
-use Rattle.rules.specs.Slots.{Shown}
 use Rattle.rules.specs.Runs.{slotLine}
 use Rattle.rules.specs.Answers.{lay}
 use Rattle.slot_laws.proofs.Lengths.{length-slotLine}

@@ -1,14 +1,10 @@
 -- `frames::slot::write_slot` meets its contract: its fields are laid one right after the other.
-use mathlib.Core.Path.{_≡_, refl}
+use mathlib.Core.Path.{refl}
 use denote.Ref.{now}
 use Rattle.frames.proofs.SlotFrame.{slot-written, slot-kept}
 use borrow.Author.Needs.{needs}
 use Rattle.frames.proofs.slot.write_slot.Statement.{statement}
 use Rattle.frames.proofs.slot.write_slot.Tie as tie
-use Rattle.frames.proofs.slot.write_slot.Reads as reads
-use Rattle.frames.proofs.slot.write_slot.Lts as lts
-use Rattle.digits.proofs.write_field.Reads as write-field-reads
-use Rattle.frames.proofs.pairs.write_pairs.Reads as write-pairs-reads
 
 mul-end : tie.Need-mul-end
 mul-end c = search needs
