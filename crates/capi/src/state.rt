@@ -5,23 +5,12 @@ use crate::answer::settle;
 use machine::lead::LeadAnswer;
 use machine::totals::write_totals;
 use runs::run::RunOutcome;
+use runs::run::length_of;
 use runs::run::run;
-use runs::slots::frame_length;
 use stored::load::load;
 use stored::store::store;
 ghost use mathlib.Core.Path.{_≡_};
-ghost use Prim.Native.Nat.{_*_, _≤_};
-ghost use Rattle.rules.specs.Limits.{coresMax};
-ghost use Rattle.runs.specs.Slots.{frameLength};
 ghost use Rattle.capi.specs.Calls.{reply, replied, filled, run as ranWith, runStored, giveTotals, giveLead};
-
-// How many bytes the frames of a count of slots on m cores take.
-fn length_of(count: u32, m: u32) -> usize
-    requires { ⌜ m ≤ coresMax ⌝ }
-    ensures { λ r. ⌜ r ≡ count * frameLength m ⌝ }
-{
-    (count as usize) * frame_length(m as usize)
-}
 
 // Runs a count of slots: their frames go into `out` from place `at` on, the bytes of the state after them become `state`.
 // They are as many as those of the state before, so that storing them is not refused.

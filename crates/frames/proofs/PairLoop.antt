@@ -1,22 +1,18 @@
 -- The loop of `write_pairs`: after i values their digits stand at the front of the buffer.
-use Prim.Native.Nat.{ℕ, zero, suc, _+_, _*_, _/_, _%_, _≤_, _<_, zero-le}
+use Prim.Native.Nat.{ℕ, _+_, _*_, _/_, _%_, _≤_, _<_, zero-le}
 use mathlib.Core.Path.{_≡_, refl, sym, ap, _∙_}
-use mathlib.Core.List.{List, [], _∷_, _++_, append-nil, append-assoc}
+use mathlib.Core.List.{List, [], _∷_, _++_, append-assoc}
 use native.Mathlib.Nat.{mod-eq-of-lt}
 use native.Mathlib.Numerals.{add-one}
 use native.Mathlib.Omega.{arith}
-use lib.ListN.{length, getD, take, drop, set, replicate, length-append, length-take, length-set}
+use lib.ListN.{length, getD, take, drop, set, length-append, length-set}
 use lib.Seq.{take-suc, take-all, length-take-le}
 use Rattle.laws.specs.Digits.{digit, field}
-use Rattle.laws.proofs.Digits.{length-field, field-suc}
+use Rattle.laws.proofs.Digits.{length-field}
 use Rattle.rules.specs.Frames.{fields}
 use Rattle.rules.specs.Answers.{lay}
-use Rattle.reading_laws.proofs.Lays.{length-lay, lay-front, laid-byte}
+use Rattle.reading_laws.proofs.Lays.{lay-front, laid-byte}
 use Rattle.frames.specs.Pairs.{pairs}
-
-pairs-cons : (v : ℕ) (vs : List ℕ) → pairs (v ∷ vs) ≡ field 2 v ++ pairs vs
-unfolding pairs fields
-pairs-cons v vs = refl
 
 pub length-pairs : (vs : List ℕ) → length (pairs vs) ≡ 2 * length vs
 unfolding pairs fields

@@ -1,27 +1,12 @@
 -- The digits of several numbers, one after the other, are the digits of one number.
-use Prim.Native.Nat.{ℕ, zero, suc, _+_, _*_, _/_, _%_, _^_, _≤_, _<_}
-use mathlib.Core.Path.{_≡_, refl, sym, ap, _∙_}
+use Prim.Native.Nat.{ℕ, _+_, _*_, _≤_, _<_}
+use mathlib.Core.Path.{_≡_, sym, ap, _∙_}
 use mathlib.Core.List.{List, [], _∷_, _++_, append-assoc, append-nil}
-use native.Mathlib.Nat.{add-zero, add-suc, pow-suc, mul-add-div-right, mul-add-mod-self-right, div-lt-iff-lt-mul}
-use native.Mathlib.Omega.{arith}
-use lib.Dec.{lit<}
 use lib.ListN.{length, getD, drop, set}
 use lib.Seq.{set-at, drop-cons, append-snoc}
-use Rattle.laws.specs.Digits.{digit, field}
-use Rattle.laws.proofs.Digits.{length-field}
+use Rattle.laws.specs.Digits.{field}
+use Rattle.laws.proofs.Digits.{length-field, field-join}
 use Rattle.rules.specs.Frames.{lineFeed, refusal, fields, frame}
-
--- u in front of v
-pub field-join : (a b u v : ℕ) → v < 16 ^ b → field (a + b) (u * 16 ^ b + v) ≡ field a u ++ field b v
-unfolding field
-field-join a zero u v h =
-    let e : u * 16 ^ 0 + v ≡ u = omega arith in
-    rw (add-zero, e) (sym (append-nil (field a u)))
-field-join a (suc b) u v h =
-    let e : u * 16 ^ suc b + v ≡ u * 16 ^ b * 16 + v = rw (pow-suc 16 b) (omega arith) in
-    let low : v / 16 < 16 ^ b = div-lt-iff-lt-mul (lit< tt) .1 (rw pow-suc at h) in
-    rw (add-suc, e, mul-add-div-right {m = 16} (lit< tt), mul-add-mod-self-right, field-join a b u (v / 16) low)
-    (append-assoc (field a u) (field b (v / 16)) (digit (v % 16) ∷ []))
 
 three : (a b c : List ℕ) → a ++ b ++ c ≡ a ++ (b ++ (c ++ []))
 three a b c = simp (append-assoc, append-nil)

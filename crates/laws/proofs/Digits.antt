@@ -1,11 +1,11 @@
 -- Hexadecimal digits and fields of them: what is written is read back, and only what is written is read.
 use Prim.Native.Nat.{ℕ, zero, suc, _+_, _-_, _*_, _/_, _%_, _^_, _≤_, _<_}
-use mathlib.Core.Path.{_≡_, refl, ap, _∙_}
+use mathlib.Core.Path.{_≡_, refl, sym, ap, _∙_}
 use mathlib.Core.Bool.{true, false, cond, not, _&&_}
 use mathlib.Core.Logic.{⊎-elim}
-use mathlib.Core.List.{List, [], _∷_, _++_}
-use mathlib.Core.Option.{none, some, Option·some-injective, Option·none-ne-some}
-use native.Mathlib.Nat.{pow-suc, pow-succ', mod-lt, mod-eq-of-lt, div-one, div-div-eq-div-mul, mul-add-div-right, mul-add-mod-self-right, one-le-pow}
+use mathlib.Core.List.{List, [], _∷_, _++_, append-assoc, append-nil}
+use mathlib.Core.Option.{none, some, Option·some-injective}
+use native.Mathlib.Nat.{add-zero, add-suc, pow-suc, pow-succ', mod-lt, mod-eq-of-lt, div-one, div-lt-iff-lt-mul, div-div-eq-div-mul, mul-add-div-right, mul-add-mod-self-right, one-le-pow}
 use native.Mathlib.Omega.{arith}
 use lib.Dec.{T, leb, ltb, leb→le, lit<}
 use lib.ListN.{length, getD, length-append}
@@ -62,11 +62,6 @@ digitValue-some b d e = ⊎-elim low high (cond-some (leb 48 b && leb b 57) e)
         let f : b - 87 ≡ d = Option·some-injective _ _ (v .1) in
         (omega arith, omega (arith, digit-high d (omega arith)))
 
--- a digit is never the line feed
-pub digit-no-feed : (b d : ℕ) → digitValue b ≡ some d → b ≡ 10 → ⊥
-unfolding digitValue
-digit-no-feed b d e f = Option·none-ne-some d (rw f at e)
-
 -- ---- fields
 
 -- a field of w digits is w bytes long
@@ -82,6 +77,18 @@ field-low zero u v = refl
 field-low (suc w) u v =
     let e : u * 16 ^ suc w + v ≡ u * 16 ^ w * 16 + v = rw (pow-suc 16 w) (omega arith) in
     rw (e, mul-add-div-right {m = 16} (lit< tt), mul-add-mod-self-right, field-low w u (v / 16))
+
+-- the digits of u, and then those of v, are the digits of one number
+pub field-join : (a b u v : ℕ) → v < 16 ^ b → field (a + b) (u * 16 ^ b + v) ≡ field a u ++ field b v
+unfolding field
+field-join a zero u v h =
+    let e : u * 16 ^ 0 + v ≡ u = omega arith in
+    rw (add-zero, e) (sym (append-nil (field a u)))
+field-join a (suc b) u v h =
+    let e : u * 16 ^ suc b + v ≡ u * 16 ^ b * 16 + v = rw (pow-suc 16 b) (omega arith) in
+    let low : v / 16 < 16 ^ b = div-lt-iff-lt-mul (lit< tt) .1 (rw pow-suc at h) in
+    rw (add-suc, e, mul-add-div-right {m = 16} (lit< tt), mul-add-mod-self-right, field-join a b u (v / 16) low)
+    (append-assoc (field a u) (field b (v / 16)) (digit (v % 16) ∷ []))
 
 -- the leading digit, and the field of the others
 pub field-suc : (w v : ℕ) → field (suc w) v ≡ digit (v / 16 ^ w % 16) ∷ field w v
@@ -99,10 +106,6 @@ field-at (suc w) v zero h =
 field-at (suc w) v (suc i) h =
     let e : suc w - 1 - suc i ≡ w - 1 - i = omega arith in
     rw (field-suc w v, e) (field-at w v i (omega arith))
-
--- every byte of a field is a digit
-pub field-byte : (w v i : ℕ) → i < w → digitValue (getD (field w v) i 0) ≡ some (v / 16 ^ (w - 1 - i) % 16)
-field-byte w v i h = rw (field-at w v i h) (digitValue-digit (v / 16 ^ (w - 1 - i) % 16) (mod-lt (v / 16 ^ (w - 1 - i)) (lit< tt)))
 
 -- what is read of a field after digits that stand for u
 pub valueAfter-field : (u w v : ℕ) → valueAfter u (field w v) ≡ some (u * 16 ^ w + v % 16 ^ w)

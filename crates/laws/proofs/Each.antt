@@ -1,15 +1,15 @@
 -- Lists by their positions, counted from 1, and what holds of each number from 1 to n.
 use Prim.Native.Nat.{ℕ, zero, suc, _+_, _≤_, _<_, zero-le}
 use mathlib.Core.Path.{_≡_, refl, sym, ap, _∙_}
-use mathlib.Core.Bool.{Bool, true, false, cond, _&&_}
+use mathlib.Core.Bool.{Bool, true, false, cond}
 use mathlib.Core.Logic.{⊎-elim}
-use mathlib.Core.List.{List, [], _∷_, _++_, map}
+use mathlib.Core.List.{List, [], _∷_, map}
 use native.Mathlib.Nat.{add-zero, add-suc, suc-add, le-of-suc-le-suc, not-suc-le-zero, eq-or-lt-of-le}
 use native.Mathlib.Omega.{arith}
 use lib.Dec.{T}
 use lib.ListN.{length, getD, length-map, replicate, getD-replicate}
 use lib.Seq.{ext-getD}
-use Rattle.laws.specs.Lists.{all, count, sum, from, numbers, each, at}
+use Rattle.laws.specs.Lists.{all, count, from, numbers, each, at}
 use Rattle.laws.proofs.Tests.{and-T, and-left, and-right}
 
 -- ---- the numbers from s on

@@ -1,7 +1,7 @@
 -- What tests of every entry of a list say, and how many numbers stand in a list; sums of equal entries; and the multiples of
 -- t below a number.
 use Prim.Native.Nat.{ℕ, zero, suc, _+_, _-_, _*_, _/_, _%_, _≤_, _<_, zero-le}
-use mathlib.Core.Path.{_≡_, refl, sym, ap, _∙_}
+use mathlib.Core.Path.{_≡_, refl, ap, _∙_}
 use mathlib.Core.Bool.{Bool, true, false, cond, not, _&&_, _||_, and-assoc}
 use mathlib.Core.Logic.{⊎-elim}
 use mathlib.Core.List.{List, [], _∷_, _++_, map}
@@ -13,7 +13,7 @@ use lib.ListN.{length, getD, replicate}
 use Rattle.laws.specs.Lists.{all, count, sum, join, numbers, later, position}
 use Rattle.laws.proofs.Tests.{to-T, and-T, and-left, and-right, decide, eqb-sym}
 use Rattle.laws.proofs.Sorted.{count-from-none, count-from-once}
-use borrow.Author.Tests.{eqb-true, eqb-false, eq-eqb, ne-eqb, lt-ltb, leb-true, leb-false}
+use borrow.Author.Tests.{eqb-true, eqb-false, eq-eqb, lt-ltb, leb-true, leb-false}
 
 -- ---- tests
 

@@ -7,7 +7,7 @@ use mathlib.Core.List.{List, [], _∷_, _++_, map, append-nil, append-assoc}
 use native.Mathlib.Nat.{add-zero, add-suc, suc-add, not-suc-le-zero}
 use native.Mathlib.Numerals.{add-one, sub-one}
 use native.Mathlib.Omega.{arith}
-use lib.ListN.{length, getD, take, drop, set, length-append, length-drop, take-append-drop}
+use lib.ListN.{length, getD, take, drop, set, length-append, take-append-drop}
 use lib.Seq.{drop-cons, drop-length, drop-drop, drop-set-lt, append-snoc, take-suc-set, length-take-le, set-at, take-at, getD-at}
 use Rattle.laws.specs.Lists.{count, from, numbers, each, at}
 use Rattle.laws.proofs.Each.{length-each}
@@ -25,9 +25,6 @@ abbrev pub filled : (ℕ → ℕ) → List ℕ → ℕ → List ℕ
 filled f l i = each i f ++ drop i l
 
 module _ (f : ℕ → ℕ) (l : List ℕ) where
-  pub length-filled : (i : ℕ) → i ≤ length l → length (filled f l i) ≡ length l
-  length-filled i h = simp (length-append, length-each, length-drop) (omega arith)
-
   step : (i : ℕ) → i < length l → filled f l i ≡ each i f ++ (getD l i 0 ∷ drop (suc i) l)
   step i h = rw (drop-cons l i 0 h)
 
@@ -48,10 +45,6 @@ module _ (f : ℕ → ℕ) (l : List ℕ) where
   -- the same of a list that a loop holds
   pub filled-turn : (i : ℕ) {cur : List ℕ} {v : ℕ} → i < length l → cur ≡ filled f l i → v ≡ f (i + 1) → set cur i v ≡ filled f l (i + 1)
   filled-turn i h e ev = rw (e, ev) (filled-put i h)
-
-  -- one step that leaves what stands there
-  pub filled-keep : (i : ℕ) → i < length l → f (i + 1) ≡ getD l i 0 → filled f l i ≡ filled f l (i + 1)
-  filled-keep i h e = step i h ∙ ap (λ (x : ℕ). each i f ++ (x ∷ drop (suc i) l)) (sym e) ∙ sym (next i)
 
   -- the end of the walk
   pub filled-end : (i : ℕ) → i ≡ length l → filled f l i ≡ each (length l) f

@@ -1,19 +1,12 @@
 -- A struct that a function is handed has arrays of 64 entries.
-use mathlib.Core.Path.{_≡_}
 use mathlib.Core.List.{List}
-use lib.ListN.{length, length-map}
+use lib.ListN.{length-map}
 use mir.Val.{Val}
 use denote.Laws.{Is}
 use denote.Struct.Declared.{row}
-use Rattle.rules.specs.Limits.{tasksMax}
-use Rattle.tables.specs.declared.table.Table.{Table}
-use Rattle.tables.proofs.table.Table as TableType
 use Rattle.machine.specs.declared.state.State.{State}
 use Rattle.machine.specs.Full.{Full}
 use Rattle.machine.proofs.state.State as StateType
-
-pub table-full : (t : Table) (vs : List Val) → Is (row TableType.the-type) t vs → length (t .rows) ≡ tasksMax
-table-full t vs g = simp length-map at (g .1 .1 .1 .1 .0 .1 .0 .1)
 
 pub state-full : (s : State) (vs : List Val) → Is (row StateType.the-type) s vs → Full s
 state-full s vs g =

@@ -5,7 +5,6 @@ use rules::kinds::is_outside;
 use rules::refusal::Refusal;
 use verdicts::share::times;
 ghost use mathlib.Core.Path.{_≡_};
-ghost use Prim.Native.Nat.{_<_, _^_};
 ghost use lib.IntN.{pos, _-ℤ_};
 ghost use Rattle.rules.specs.Answers.{askLead};
 ghost use Rattle.machine.specs.Answers.{asked, leadAnswer, Small};

@@ -3,7 +3,7 @@ use Prim.Native.Nat.{ℕ, zero, suc, _+_, _*_, _/_, _%_, _≤_, _<_, _∣_, zero
 use mathlib.Core.Path.{_≡_, sym, ap, _∙_}
 use mathlib.Core.Logic.{⊎-elim}
 use mathlib.Core.List.{List, [], _∷_, _++_}
-use native.Mathlib.Nat.{mul-one, mul-pos, mod-lt, mul-mod-left, div-add-mod, dvd-refl, dvd-trans, dvd-mul-right, dvd-mul-right-of-dvd, dvd-add-iff-right, dvd-of-mod-eq-zero, mod-eq-zero-of-dvd, mul-div-cancel', div-mul-cancel, mul-dvd-mul-left, dvd-antisymm, le-of-dvd, one-dvd, eq-one-of-dvd-one, dvd-of-mul-dvd-mul-left, eq-of-mul-eq-mul-left, eq-or-lt-of-le}
+use native.Mathlib.Nat.{mul-one, mul-pos, mod-lt, mul-mod-left, div-add-mod, dvd-refl, dvd-trans, dvd-mul-right, dvd-mul-right-of-dvd, dvd-add-iff-right, dvd-of-mod-eq-zero, mod-eq-zero-of-dvd, mul-div-cancel', div-mul-cancel, mul-dvd-mul-left, le-of-dvd, one-dvd, eq-one-of-dvd-one, dvd-of-mul-dvd-mul-left, eq-of-mul-eq-mul-left, eq-or-lt-of-le}
 use native.Mathlib.Omega.{arith}
 use lib.ListN.{length, getD}
 use borrow.Author.Tests.{eq-eqb, eqb-true, eqb-false}
@@ -75,10 +75,6 @@ module _ (h t : ℕ) (tp : 0 < t) where
   lcm-least x hx tx =
       let back : h * (x / h) ≡ x = mul-div-cancel' h hx in
       rw (← back) (mul-dvd-mul-left (factor h t) h (dvd-of-mod-eq-zero (factor h t) (no-rest (x / h) (rw back tx))))
-
-  -- and it is the only such number
-  pub lcm-unique : (x : ℕ) → h ∣ x → t ∣ x → ((y : ℕ) → h ∣ y → t ∣ y → x ∣ y) → x ≡ lcm h t
-  lcm-unique x hx tx all = dvd-antisymm (all (lcm h t) (lcm-left h t) lcm-right) (lcm-least x hx tx)
 
   -- by the greatest common divisor: h times what is left of t without it
   pub lcm-by-gcd : (g : ℕ) → 0 < h → 0 < g → g ∣ h → g ∣ t → ((c : ℕ) → c ∣ h → c ∣ t → c ∣ g) → lcm h t ≡ h * (t / g)

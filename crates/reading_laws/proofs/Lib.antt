@@ -3,3 +3,4 @@ pub mod Tests
 pub mod Outcomes
 pub mod Files
 pub mod Lays
+pub mod Laying

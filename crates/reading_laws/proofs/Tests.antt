@@ -16,7 +16,7 @@ use Rattle.rules.specs.Limits.{coresMin, coresMax, tasksMin, tasksMax, periodMa
 use Rattle.rules.specs.Refusals.{Test, test, first, taken, answered, settle, passes}
 use Rattle.rules.specs.Rows.{Row}
 use Rattle.rules.specs.Repeat.{repeatLength}
-use Rattle.rules.specs.Tables.{Table, size, noRow, rowOf, outside, headerTests, rowTests, wholeTests, listTests, accepts}
+use Rattle.rules.specs.Tables.{Table, size, outside, headerTests, rowTests, wholeTests, listTests, accepts}
 use Rattle.rules.specs.declared.refusal.Refusal.{Refusal}
 use Rattle.rules.specs.declared.refusal.Refusal.the-variants.{BadCores, BadTasks, BadRow, BadRepeat}
 use Rattle.reading_laws.specs.Bounds.{Within, RowInBounds, Every, TableInBounds}
@@ -144,11 +144,6 @@ pub every-getD : {A : Type 0} (P : A → Type 0) (xs : List A) (d : A) (i : ℕ)
 every-getD P [] d i ps h = absurd (omega arith)
 every-getD P (x ∷ xs) d zero ps h = ps .0
 every-getD P (x ∷ xs) d (suc i) ps h = every-getD P xs d i (ps .1) (omega arith)
-
--- the row of each task of a table in its bounds is in its own
-pub row-in-bounds : (tbl : Table) → TableInBounds tbl → (i : ℕ) → 1 ≤ i → i ≤ size tbl → RowInBounds (rowOf tbl i)
-row-in-bounds tbl b zero low high = absurd (omega arith)
-row-in-bounds tbl b (suc i) low high = every-getD RowInBounds (tbl .rows) noRow i (b .fine) high
 
 -- ---- which refusal is given
 

@@ -4,7 +4,7 @@ use mathlib.Core.Path.{_≡_, sym, ap, _∙_}
 use mathlib.Core.List.{List, _++_, map}
 use native.Mathlib.Omega.{arith}
 use lib.Dec.{T}
-use lib.ListN.{length, take, drop, length-append}
+use lib.ListN.{length, take, length-append}
 use Rattle.rules.specs.Limits.{tasksMax}
 use Rattle.rules.specs.Refusals.{settle}
 use Rattle.rules.specs.Repeat.{repeatLength}
@@ -16,7 +16,6 @@ use Rattle.rules.specs.declared.refusal.Refusal.{Refusal}
 use Rattle.rules.specs.declared.verdict.Verdict.{Verdict}
 use Rattle.priority_laws.proofs.Order.{order-length}
 use Rattle.reading_laws.proofs.Tests.{accepts-iff}
-use Rattle.reading_laws.proofs.Lays.{lay-front}
 use Rattle.tables.specs.Views.{view}
 use Rattle.tables.specs.declared.table.Table.{Table}
 use Rattle.tables.proofs.Views.{length-view}
@@ -27,7 +26,7 @@ use Rattle.verdicts.specs.declared.table.PriorityAnswer.{PriorityAnswer}
 use Rattle.verdicts.specs.declared.table.VerdictAnswer.{VerdictAnswer}
 use Rattle.verdicts.specs.declared.table.VerdictAnswer.the-variants.{Judged, Refused}
 use Rattle.verdicts.proofs.Accepted.{verdict-accepted, priority-accepted, verdict-line, plain-packed}
-use Rattle.verdicts.proofs.Laying.{Laid, length-verdict, length-orderLine}
+use Rattle.verdicts.proofs.Pieces.{length-verdict, length-orderLine}
 use Rattle.machine.specs.Tables.{Opened}
 use Rattle.reports.specs.Heads.{head, headLength}
 
@@ -43,10 +42,6 @@ length-ranksLine tbl = length-orderLine (order tbl) ∙ omega (arith, order-leng
 -- both together
 pub length-head : (tbl : Rules.Table) → length (head tbl) ≡ headLength tbl
 length-head tbl = length-append (verdictLine tbl) (orderLine (order tbl)) ∙ omega (arith, length-verdictLine tbl, length-ranksLine tbl)
-
--- a text that was laid at the front of a buffer
-pub laid-front : (out : List ℕ) {text now : List ℕ} {end : ℕ} → Laid out text now end → (n : ℕ) → end ≡ n → now ≡ text ++ drop n out
-laid-front out {text} laid n e = laid .whole ∙ lay-front out text ∙ ap (λ (k : ℕ). text ++ drop k out) (laid .ends ∙ e)
 
 -- ---- what the analysis answers
 

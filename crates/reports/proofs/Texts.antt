@@ -31,7 +31,7 @@ use Rattle.tables.specs.declared.table.Table.{Table}
 use Rattle.tables.specs.declared.write.WriteAnswer.{WriteAnswer}
 use Rattle.tables.specs.declared.write.WriteAnswer.the-variants.{Written}
 use Rattle.tables.proofs.Bounds.{repeat-taken, repeat-refused}
-use Rattle.verdicts.proofs.Laying.{Laid, first, more, line-kept}
+use Rattle.reading_laws.proofs.Laying.{Laid, first, more, laid-front, line-kept}
 use Rattle.machine.specs.Tables.{Opened}
 use Rattle.machine.specs.Views.{pack}
 use Rattle.machine.specs.Answers.{asked}
@@ -43,7 +43,7 @@ use Rattle.runs.specs.declared.run.RunOutcome.the-variants.{Taken}
 use Rattle.reports.specs.Heads.{head, headLength}
 use Rattle.reports.specs.Texts.{slotsOf, runLines, runLength, reportLength, RunRoom}
 use Rattle.reports.specs.Reports.{textMax}
-use Rattle.reports.proofs.Heads.{length-head, laid-front}
+use Rattle.reports.proofs.Heads.{length-head}
 use Rattle.reports.proofs.Taking.{run-taken, totals-taken}
 
 -- ---- how many slots are run

@@ -2,17 +2,14 @@
 use crate::head::head_length;
 use crate::head::write_head;
 use rules::kinds::RepeatAnswer;
-use runs::slots::frame_length;
+use runs::run::length_of;
 use tables::table::Table;
 ghost use mathlib.Core.Path.{_≡_};
 ghost use mathlib.Core.List.{_++_};
-ghost use Prim.Native.Nat.{_*_, _≤_};
 ghost use lib.ListN.{drop};
-ghost use Rattle.rules.specs.Limits.{coresMax};
 ghost use Rattle.rules.specs.Program.{report};
 ghost use Rattle.tables.specs.Views.{view};
 ghost use Rattle.machine.specs.Tables.{Opened};
-ghost use Rattle.runs.specs.Slots.{frameLength};
 ghost use Rattle.reports.specs.Heads.{Room};
 ghost use Rattle.reports.specs.Texts.{slotsOf, runLines, runLength, reportLength, RunRoom};
 
@@ -31,20 +28,12 @@ fn slots_of(t: Table) -> u32
     if h.0 < SLOTS_MAX { h.0 } else { SLOTS_MAX }
 }
 
-// How many bytes the frames of a count of slots take.
-fn slots_length(m: u32, count: u32) -> usize
-    requires { ⌜ m ≤ coresMax ⌝ }
-    ensures { λ r. ⌜ r ≡ count * frameLength m ⌝ }
-{
-    (count as usize) * frame_length(m as usize)
-}
-
 // How many bytes all of the text takes.
 pub fn report_length(t: Table) -> usize
     requires { ⌜ Opened t ⌝ }
     ensures { λ r. ⌜ r ≡ reportLength (view t) ⌝ }
 {
-    head_length(t) + (slots_length(t.m.0, slots_of(t)) + TOTALS_LENGTH)
+    head_length(t) + (length_of(slots_of(t), t.m.0) + TOTALS_LENGTH)
 }
 
 // The frames of a count of slots from the fresh state, and of the totals after them, at the front of the lent part; nothing after
@@ -53,7 +42,7 @@ fn write_run(out: &mut [u8], t: Table, count: u32)
     requires { ⌜ RunRoom t count (now out) ⌝ }
     ensures { λ _. ⌜ now (out .exit) ≡ runLines (view t) count ++ drop (runLength (view t .m) count) (now (out .entry)) ⌝ }
 {
-    let end = slots_length(t.m.0, count);
+    let end = length_of(count, t.m.0);
     let start = machine::fresh::fresh(t);
     let ran = runs::run::run(start, count, out, 0);
     let state = ran.state;

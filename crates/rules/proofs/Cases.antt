@@ -1,14 +1,14 @@
 -- The worked cases of the paper, and some that tell a wrong rule from the right one where those do not: one list, computed
 -- by the definitions.
-use Prim.Native.Nat.{ℕ, zero, suc, _*_}
-use Prim.Native.Char.{Char, code}
+use Prim.Native.Nat.{ℕ, _*_}
+use Prim.Native.Char.{code}
 use Prim.Native.String as Str
 use Prim.Native.String.{String}
 use mathlib.Core.Bool.{Bool, true, false, not, _&&_, Bool·beq}
-use mathlib.Core.List.{List, [], _∷_, _++_}
-use lib.Dec.{T, eqb, ltb}
+use mathlib.Core.List.{List, [], _∷_}
+use lib.Dec.{T, eqb}
 use lib.IntN.{ℤ, pos, negsuc}
-use Rattle.laws.specs.Lists.{all, sum, at, same, least}
+use Rattle.laws.specs.Lists.{all, sum, at, same}
 use Rattle.laws.specs.Digits.{digit, digitValue, field, valueAfter, value}
 use Rattle.rules.specs.Refusals.{Answer, taken, refused, numberOf}
 use Rattle.rules.specs.Rows.{Row, releases, due, demand, releasesBefore, released}

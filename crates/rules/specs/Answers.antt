@@ -1,21 +1,19 @@
 -- What is asked of the library, with its refusals in their order. Output goes into a lent buffer from a place on; a refusal
 -- leaves the buffer and the state as they were.
-use Prim.Native.Nat.{ℕ, _+_, _*_}
-use mathlib.Core.Bool.{Bool, true, false, not, _||_}
+use Prim.Native.Nat.{ℕ, _+_}
+use mathlib.Core.Bool.{not}
 use mathlib.Core.List.{List, [], _∷_, _++_}
-use mathlib.Core.Option.{Option, none, some}
-use lib.Dec.{eqb, ltb}
+use lib.Dec.{ltb}
 use lib.ListN.{length, take, drop}
 use lib.IntN.{ℤ}
 use Rattle.rules.specs.Limits.{clockMax}
 use Rattle.rules.specs.Refusals.{Test, test, Answer, settle}
 use Rattle.rules.specs.Rows.{Row}
-use Rattle.rules.specs.Tables.{Table, size, outside, listTests}
+use Rattle.rules.specs.Tables.{size, outside, listTests}
 use Rattle.rules.specs.Files.{text}
 use Rattle.rules.specs.States.{State}
 use Rattle.rules.specs.Forms.{wellFormed}
 use Rattle.rules.specs.Runs.{after, slotLines, totalsLine, lead}
-use Rattle.rules.specs.declared.refusal.Refusal.{Refusal}
 use Rattle.rules.specs.declared.refusal.Refusal.the-variants.{BadTasks, NoRoom, PastClock, BadState}
 
 -- a buffer with a text laid into it from a place on

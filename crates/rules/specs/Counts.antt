@@ -1,12 +1,12 @@
 -- The counts of a run, read off its slots alone: the placings of slots 0, 1, .. of a table's run from the fresh state.
-use Prim.Native.Nat.{ℕ, zero, suc, _+_, _-_, _*_}
-use mathlib.Core.Bool.{Bool, true, false, cond, not, _&&_}
-use mathlib.Core.List.{List, [], _∷_, map}
+use Prim.Native.Nat.{ℕ, zero, suc, _+_, _-_}
+use mathlib.Core.Bool.{Bool, cond, not, _&&_}
+use mathlib.Core.List.{List, []}
 use lib.Dec.{eqb, ltb}
-use Rattle.laws.specs.Lists.{count, sum, numbers, at, position}
+use Rattle.laws.specs.Lists.{count, numbers, at, position}
 use Rattle.rules.specs.Rows.{Row, due, demand}
 use Rattle.rules.specs.Tables.{Table, size, rowOf}
-use Rattle.rules.specs.States.{State, fresh}
+use Rattle.rules.specs.States.{fresh}
 use Rattle.rules.specs.Slots.{slot}
 use Rattle.rules.specs.Runs.{after}
 

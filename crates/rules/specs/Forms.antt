@@ -1,13 +1,13 @@
 -- When a state is well formed.
 use Prim.Native.Nat.{ℕ, _+_, _*_}
-use mathlib.Core.Bool.{Bool, true, false, not, _&&_, _||_}
-use mathlib.Core.List.{List, [], _∷_}
+use mathlib.Core.Bool.{Bool, not, _&&_, _||_}
+use mathlib.Core.List.{[]}
 use lib.Dec.{eqb, leb}
 use lib.ListN.{length}
 use Rattle.laws.specs.Lists.{all, numbers, at, same}
 use Rattle.rules.specs.Limits.{clockMax, tasksMax}
 use Rattle.rules.specs.Rows.{Row, releases, released}
-use Rattle.rules.specs.Tables.{Table, size, rowOf, accepts}
+use Rattle.rules.specs.Tables.{size, rowOf, accepts}
 use Rattle.rules.specs.Verdicts.{order}
 use Rattle.rules.specs.States.{State}
 

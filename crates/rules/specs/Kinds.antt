@@ -1,6 +1,6 @@
 -- The kinds of number: each is made only from a number within its bounds.
 use Prim.Native.Nat.{ℕ}
-use mathlib.Core.Bool.{Bool, true, false, cond}
+use mathlib.Core.Bool.{cond}
 use Rattle.rules.specs.Limits.{coresMin, coresMax, tasksMin, tasksMax, periodMax, repeatMax, clockMax}
 use Rattle.rules.specs.Tables.{outside}
 use Rattle.rules.specs.declared.kinds.CoresAnswer.{CoresAnswer}

@@ -1,6 +1,6 @@
 -- The numbers of refusal, and which of several tests counts: the first, in their order, whose condition holds.
 use Prim.Native.Nat.{ℕ}
-use mathlib.Core.Bool.{Bool, true, false, cond, not}
+use mathlib.Core.Bool.{Bool, cond, not}
 use mathlib.Core.List.{List, [], _∷_}
 use mathlib.Core.Option.{Option, none, some}
 use Rattle.laws.specs.Lists.{all}

@@ -1,15 +1,15 @@
 -- Runs of several slots, the lead and the totals, and their frames.
-use Prim.Native.Nat.{ℕ, zero, suc, _+_, _*_}
+use Prim.Native.Nat.{ℕ, zero, suc, _*_}
 use mathlib.Core.List.{List, [], _∷_, _++_, map}
 use lib.ListN.{length}
 use lib.IntN.{ℤ, pos, _-ℤ_}
 use Rattle.laws.specs.Lists.{sum, at, join}
 use Rattle.rules.specs.Rows.{Row}
-use Rattle.rules.specs.Tables.{Table, size, rowOf}
+use Rattle.rules.specs.Tables.{Table, rowOf}
 use Rattle.rules.specs.Repeat.{repeatLength}
 use Rattle.rules.specs.Verdicts.{verdict, verdictByte, heavyCount, order}
 use Rattle.rules.specs.States.{State}
-use Rattle.rules.specs.Slots.{Shown, Outcome, slot}
+use Rattle.rules.specs.Slots.{Shown, slot}
 use Rattle.rules.specs.Frames as Frames
 use Rattle.rules.specs.Frames.{frame}
 

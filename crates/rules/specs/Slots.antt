@@ -1,11 +1,11 @@
 -- One slot (000, section 1): release, choose, place, effect.
-use Prim.Native.Nat.{ℕ, zero, suc, _+_, _-_}
-use mathlib.Core.Bool.{Bool, true, false, cond, not, _&&_}
-use mathlib.Core.List.{List, [], _∷_, _++_, map}
+use Prim.Native.Nat.{ℕ, suc, _+_, _-_}
+use mathlib.Core.Bool.{Bool, cond, not, _&&_}
+use mathlib.Core.List.{List, []}
 use lib.Dec.{eqb, ltb}
 use lib.ListN.{take, set, replicate}
-use Rattle.laws.specs.Lists.{filter, count, sum, foldl, numbers, each, at, position}
-use Rattle.rules.specs.Rows.{Row, releases, due, demand}
+use Rattle.laws.specs.Lists.{filter, count, foldl, numbers, each, at, position}
+use Rattle.rules.specs.Rows.{releases, due, demand}
 use Rattle.rules.specs.Tables.{Table, size, rowOf}
 use Rattle.rules.specs.States.{State}
 

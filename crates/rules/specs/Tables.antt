@@ -1,15 +1,14 @@
 -- Tables, and the tests of a list of rows: 2, 3, then 4 row by row, then 5.
 use Prim.Native.Nat.{ℕ}
-use mathlib.Core.Bool.{Bool, true, false, _||_}
+use mathlib.Core.Bool.{Bool, _||_}
 use mathlib.Core.List.{List, [], _∷_, _++_, map}
-use lib.Dec.{T, eqb, ltb}
+use lib.Dec.{eqb, ltb}
 use lib.ListN.{length, getD}
 use Rattle.laws.specs.Lists.{join}
 use Rattle.rules.specs.Limits.{coresMin, coresMax, tasksMin, tasksMax, periodMax, repeatMax}
 use Rattle.rules.specs.Refusals.{Test, test, passes, Answer, settle}
 use Rattle.rules.specs.Rows.{Row}
 use Rattle.rules.specs.Repeat.{repeatLength}
-use Rattle.rules.specs.declared.refusal.Refusal.{Refusal}
 use Rattle.rules.specs.declared.refusal.Refusal.the-variants.{BadCores, BadTasks, BadRow, BadRepeat}
 
 pub record Table : Type 0 where

@@ -9,6 +9,7 @@ use Rattle.runs.proofs.parts.apart.Reads as apart
 use Rattle.runs.proofs.parts.together.Reads as together
 use Rattle.runs.proofs.slots.frame_length.Reads as frame-length
 use Rattle.runs.proofs.slots.run_slots.Reads as run-slots
+use Rattle.runs.proofs.run.length_of.Reads as length-of
 use Rattle.runs.proofs.run.run.Reads as run
 use Rattle.runs.proofs.run.step.Reads as step
 
@@ -27,6 +28,9 @@ run-slots-once κs a x y s t p q =
     let state = both (p .state) (q .state) in
     λ j.
     (stepped (both (p .phases) (q .phases) j) (state j .left) (state j .last) (state j .done) (state j .dropped) (both (p .placing) (q .placing) j) (state j .moves) (state j .misses), both (p .lines) (q .lines) j)
+
+pub length-of-once : One length-of.Post (λ κs r s. r)
+length-of-once κs a x y s t p q = both p q
 
 pub run-once : One run.Post (λ κs r s. runEnd r (now (s .1 .1 .0)))
 run-once κs a x y s t p q = both p q

@@ -36,7 +36,7 @@ fn is_past(clock: u32, count: u32) -> bool
 }
 
 // How many bytes the frames of a count of slots of m cores take.
-fn length_of(count: u32, m: u32) -> usize
+pub fn length_of(count: u32, m: u32) -> usize
     requires { ⌜ m ≤ coresMax ⌝ }
     ensures { λ r. ⌜ r ≡ count * frameLength m ⌝ }
 {

@@ -1,12 +1,10 @@
 -- A table's run from the fresh state, boundary by boundary: what the state at a boundary is made of, and how the slot
 -- before the next one changes it.
-use Prim.Native.Nat.{ℕ, zero, suc, _+_, _-_, _≤_, _<_}
-use mathlib.Core.Path.{_≡_, refl, ap, _∙_}
+use Prim.Native.Nat.{ℕ, suc, _+_, _-_, _≤_, _<_}
+use mathlib.Core.Path.{_≡_, ap, _∙_}
 use mathlib.Core.Bool.{cond}
-use mathlib.Core.Logic.{inl, inr}
 use mathlib.Core.List.{List, _∷_}
 use native.Mathlib.Nat.{add-zero}
-use native.Mathlib.Decide.{decLe}
 use native.Mathlib.Omega.{arith}
 use lib.Dec.{eqb}
 use lib.ListN.{length, List·getD-eq-default}
@@ -23,7 +21,6 @@ use Rattle.slot_laws.proofs.After.{after-suc, after-table, after-ranks,
 use Rattle.slot_laws.proofs.Choosing.{Choice, choose-choice, choose-pending}
 use Rattle.slot_laws.proofs.Placing.{place-length, place-holds}
 use Rattle.slot_laws.proofs.Books.{order-ranking}
-use Rattle.priority_laws.proofs.Order.{order-once, order-none}
 
 -- the state at boundary b, and the left work after the releases of slot b
 abbrev pub state : Table → ℕ → State

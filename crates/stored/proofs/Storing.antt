@@ -21,6 +21,7 @@ use Rattle.tables.specs.Views as Tables
 use Rattle.tables.specs.Writes.{Wrote, made, wrote}
 use Rattle.tables.specs.declared.write.WriteAnswer.the-variants.{Written, Refused}
 use Rattle.reading_laws.proofs.Lays.{length-lay, lay-lent, laid-on, lay-front}
+use Rattle.reading_laws.proofs.Laying.{Laid, first, more, ends-at, laid-front}
 use Rattle.machine.specs.Full.{Full}
 use Rattle.machine.specs.Views.{tasks, taskNumber, coreNumber, units, view, formed}
 use Rattle.machine.specs.declared.state.State.{State}
@@ -44,28 +45,33 @@ written-snoc (x ∷ ws) [] w v e = absurd (omega arith)
 written-snoc (x ∷ ws) (u ∷ vs) w v e = rw (written-snoc ws vs w v (omega arith)) (sym (append-assoc (bytesOf x u) (written ws vs) (bytesOf w v)))
 
 -- so far these fields stand at the front of the lent part
-pub record Laid (out ws vs now : List ℕ) : Type 0 where
+pub record Fields (out ws vs now : List ℕ) : Type 0 where
   pub paired : length vs ≡ length ws
-  pub whole : now ≡ lay out 0 (written ws vs)
+  pub laid : Laid out (written ws vs) now (sum ws)
 
 module _ (out : List ℕ) where
-  pub first-field : (w v : ℕ) {now : List ℕ} → now ≡ bytesOf w v ++ drop w out → Laid out (w ∷ []) (v ∷ []) now
+  pub first-field : (w v : ℕ) {now : List ℕ} → now ≡ bytesOf w v ++ drop w out → Fields out (w ∷ []) (v ∷ []) now
   unfolding written
-  first-field w v e = record { paired = refl; whole = e ∙ rw (append-nil (bytesOf w v), lay-front out (bytesOf w v), length-bytesOf w v) }
+  first-field w v e =
+      let one : List ℕ = written (w ∷ []) (v ∷ []) in
+      record {
+        paired = refl;
+        laid = ends-at out (first out one w (length-written (w ∷ []) (v ∷ []) refl ∙ omega arith) (rw (append-nil (bytesOf w v)) e)) (sum (w ∷ [])) (omega arith);
+      }
 
-  module _ {ws vs now : List ℕ} (so-far : Laid out ws vs now) (end : ℕ) (ends : sum ws ≡ end) where
+  module _ {ws vs now : List ℕ} (so-far : Fields out ws vs now) (end : ℕ) (ends : sum ws ≡ end) where
     pub next-field : (w v : ℕ) {tail : List ℕ} → end + w ≤ length out → tail ≡ bytesOf w v ++ drop w (midOf end (length now - end) now)
-        → Laid out (ws ++ (w ∷ [])) (vs ++ (v ∷ [])) (putMid end (length now - end) now tail)
+        → Fields out (ws ++ (w ∷ [])) (vs ++ (v ∷ [])) (putMid end (length now - end) now tail)
     next-field w v {tail} room e =
+        let paired : length (vs ++ (v ∷ [])) ≡ length (ws ++ (w ∷ [])) = length-append vs (v ∷ []) ∙ omega (arith, so-far .paired, length-append ws (w ∷ [])) in
+        let next = more out (ends-at out (so-far .laid) end ends) (bytesOf w v) w (length-bytesOf w v) room e in
         record {
-          paired = length-append vs (v ∷ []) ∙ omega (arith, so-far .paired, length-append ws (w ∷ []));
-          whole =
-              laid-on out 0 (written ws vs) now (so-far .whole) end (omega (arith, length-written ws vs (so-far .paired))) w (bytesOf w v) tail (length-bytesOf w v) room e
-              ∙ ap (lay out 0) (sym (written-snoc ws vs w v (so-far .paired)));
+          paired = paired;
+          laid = record { whole = next .whole ∙ ap (lay out 0) (sym (written-snoc ws vs w v (so-far .paired))); ends = length-written (ws ++ (w ∷ [])) (vs ++ (v ∷ [])) paired };
         }
 
     pub all-fields : now ≡ written ws vs ++ drop end out
-    all-fields = so-far .whole ∙ lay-front out (written ws vs) ∙ ap (λ (k : ℕ). written ws vs ++ drop k out) (length-written ws vs (so-far .paired) ∙ ends)
+    all-fields = laid-front out (so-far .laid) end ends
 
 -- ---- the record of a task
 
@@ -100,18 +106,12 @@ pub halves-laid : (out : List ℕ) (c t rank last left done dropped : ℕ) {now 
     → putMid 10 (length now - 10) now tail ≡ written taskWidths (c ∷ t ∷ rank ∷ last ∷ left ∷ done ∷ dropped ∷ []) ++ drop 34 out
 unfolding written
 halves-laid out c t rank last left done dropped {now} {tail} room one two =
-    let first : List ℕ = written (4 ∷ 4 ∷ 1 ∷ 1 ∷ []) (c ∷ t ∷ rank ∷ last ∷ []) in
-    let second : List ℕ = written (8 ∷ 8 ∷ 8 ∷ []) (left ∷ done ∷ dropped ∷ []) in
-    let whole : List ℕ = written taskWidths (c ∷ t ∷ rank ∷ last ∷ left ∷ done ∷ dropped ∷ []) in
-    let long₁ : length first ≡ 10 = length-written (4 ∷ 4 ∷ 1 ∷ 1 ∷ []) (c ∷ t ∷ rank ∷ last ∷ []) refl in
-    let long₂ : length second ≡ 24 = length-written (8 ∷ 8 ∷ 8 ∷ []) (left ∷ done ∷ dropped ∷ []) refl in
-    let long : length whole ≡ 34 = length-written taskWidths (c ∷ t ∷ rank ∷ last ∷ left ∷ done ∷ dropped ∷ []) refl in
-    let laid : now ≡ lay out 0 first = one ∙ sym (lay-front out first ∙ ap (λ (k : ℕ). first ++ drop k out) long₁) in
-    let joined : first ++ second ≡ whole = simp (append-assoc, append-nil) in
-    laid-on out 0 first now laid 10 (omega (arith, long₁)) 24 second tail long₂ room two
-    ∙ ap (lay out 0) joined
-    ∙ lay-front out whole
-    ∙ ap (λ (k : ℕ). whole ++ drop k out) long
+    let numbers₄ : List ℕ = written (4 ∷ 4 ∷ 1 ∷ 1 ∷ []) (c ∷ t ∷ rank ∷ last ∷ []) in
+    let units₃ : List ℕ = written (8 ∷ 8 ∷ 8 ∷ []) (left ∷ done ∷ dropped ∷ []) in
+    let front = first out numbers₄ 10 (length-written (4 ∷ 4 ∷ 1 ∷ 1 ∷ []) (c ∷ t ∷ rank ∷ last ∷ []) refl) one in
+    let both = more out front units₃ 24 (length-written (8 ∷ 8 ∷ 8 ∷ []) (left ∷ done ∷ dropped ∷ []) refl) room two in
+    let joined : numbers₄ ++ units₃ ≡ written taskWidths (c ∷ t ∷ rank ∷ last ∷ left ∷ done ∷ dropped ∷ []) = simp (append-assoc, append-nil) in
+    laid-front out both 34 refl ∙ ap (λ (l : List ℕ). l ++ drop 34 out) joined
 
 -- ---- the records, one right after the other
 
@@ -200,15 +200,12 @@ module _ (s : State) (full : Full s) (few : tasks s ≤ tasksMax) where
       let n : ℕ = tasks s in
       let fixed : List ℕ = written fixedWidths (fixedOf (view s)) in
       let rest : List ℕ = join (map (recordOf (view s)) (numbers n)) in
-      let long₁ : length fixed ≡ 22 = length-written fixedWidths (fixedOf (view s)) refl in
-      let laid₁ : out₁ ≡ lay out 0 fixed =
-      fixed-is ∙ ap (λ (vs : List ℕ). written fixedWidths vs ++ drop 22 out) (sym fixed-numbers) ∙ sym (lay-front out fixed ∙ rw long₁)
-      in
-      let laid₂ : putMid 22 (length out₁ - 22) out₁ tail ≡ lay out 0 (fixed ++ rest) =
-      laid-on out 0 fixed out₁ laid₁ 22 (omega arith) (34 * n) rest tail (length-records (recordOf (view s)) 34 (long s) 1 n) (omega arith) rest-is
-      in
+      let records : length rest ≡ 34 * n = length-records (recordOf (view s)) 34 (long s) 1 n in
+      let front : out₁ ≡ fixed ++ drop 22 out = fixed-is ∙ ap (λ (vs : List ℕ). written fixedWidths vs ++ drop 22 out) (sym fixed-numbers) in
+      let one = first out fixed 22 (length-written fixedWidths (fixedOf (view s)) refl) front in
       let whole : fixed ++ rest ≡ store (view s) = ap (λ (k : ℕ). fixed ++ join (map (recordOf (view s)) (numbers k))) (sym sizes) in
-      laid₂ ∙ ap (lay out 0) whole ∙ lay-front out (store (view s)) ∙ ap (λ (k : ℕ). store (view s) ++ drop k out) length-stored
+      laid-front out (more out one rest (34 * n) records (omega arith) rest-is) (lengthOf n) (omega arith)
+      ∙ ap (λ (l : List ℕ). l ++ drop (lengthOf n) out) whole
 
 -- ---- the answer
 

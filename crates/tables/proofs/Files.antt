@@ -5,7 +5,7 @@ use mathlib.Core.List.{List, [], _∷_, _++_, append-nil}
 use native.Mathlib.Nat.{sub-zero}
 use native.Mathlib.Numerals.{add-one}
 use native.Mathlib.Omega.{arith}
-use lib.ListN.{length, take, drop, set, length-append, length-drop, drop-of-length-le}
+use lib.ListN.{length, drop, set, length-append, length-drop, drop-of-length-le}
 use lib.Seq.{drop-drop, drop-cons, append-snoc}
 use Rattle.rules.specs.Refusals.{Answer, taken, refused, andThen, settle}
 use Rattle.rules.specs.Rows as Rows

@@ -1,24 +1,21 @@
 -- Reading the frame of two numbers, test by test: each test that fails ends it, and where none does it gives both numbers.
-use Prim.Native.Nat.{ℕ, suc, _+_, _-_, _^_, _≤_, _<_}
+use Prim.Native.Nat.{ℕ, suc, _+_, _^_, _≤_, _<_}
 use mathlib.Core.Path.{_≡_, refl, sym, ap, _∙_}
 use mathlib.Core.List.{List, [], _∷_, _++_, append-assoc, append-nil}
 use mathlib.Core.Option.{Option, none, some}
 use native.Mathlib.Nat.{lt-of-lt-of-le, pow-le-pow-right}
 use native.Mathlib.Omega.{arith}
 use lib.Dec.{leb, lit<}
-use borrow.Rule.Slice.PartMut.{putMid}
-use lib.ListN.{length, getD, set, take, drop, length-append, length-take, length-drop}
+use lib.ListN.{length, getD, take, drop, length-append, length-take, length-drop}
 use lib.Seq.{drop-drop, drop-cons, drop-at}
 use borrow.Author.Tests.{le-leb, eq-eqb, ne-eqb}
 use Rattle.laws.specs.Digits.{value, field}
 use Rattle.laws.proofs.Tests.{cond-same}
-use Rattle.laws.proofs.Digits.{value-some, length-field}
+use Rattle.laws.proofs.Digits.{value-some}
 use Rattle.rules.specs.Frames.{Read, lineFeed, fields, frame, readField, readFields, readEnd, readFrame}
-use Rattle.rules.specs.Answers.{lay}
 use Rattle.reading_laws.specs.Frames.{Fits, Begins}
 use Rattle.reading_laws.proofs.Frames.{read-none, frame-read, length-frame}
 use Rattle.tables.specs.Pairs.{pairShape}
-use Rattle.reading_laws.proofs.Lays.{laid-on, laid-byte, lay-front}
 
 module _ (s : List ℕ) (j w : ℕ) where
   field-stops : value (take w (drop j s)) ≡ none → readField w (drop j s) ≡ none
@@ -112,56 +109,10 @@ module _ (s : List ℕ) (kind w : ℕ) (long : 2 + w + w < length s) where
 -- ---- written
 
 -- the three fields and the line feed
-abbrev parts : ℕ → ℕ → ℕ → ℕ → List ℕ
-parts kind w a b = field 2 kind ++ field w a ++ field w b ++ (lineFeed ∷ [])
-
-frame-parts : (kind w a b : ℕ) → frame (pairShape kind w) (a ∷ b ∷ []) ≡ parts kind w a b
+pub frame-parts : (kind w a b : ℕ) → frame (pairShape kind w) (a ∷ b ∷ []) ≡ field 2 kind ++ field w a ++ field w b ++ (lineFeed ∷ [])
 unfolding frame fields
-frame-parts kind w a b =
-    rw (append-nil (field w b)) (ap (λ (l : List ℕ). l ++ (lineFeed ∷ [])) (sym (append-assoc (field 2 kind) (field w a) (field w b))))
-
-length-two : (kind w a : ℕ) → length (field 2 kind ++ field w a) ≡ 2 + w
-length-two kind w a = length-append (field 2 kind) (field w a) ∙ omega (arith, length-field 2 kind, length-field w a)
-
-length-three : (kind w a b : ℕ) → length (field 2 kind ++ field w a ++ field w b) ≡ 2 + w + w
-length-three kind w a b =
-    length-append (field 2 kind ++ field w a) (field w b) ∙ omega (arith, length-two kind w a, length-field w b)
+frame-parts kind w a b = simp (append-assoc, append-nil)
 
 -- how long the line is
 pub length-pair : (kind w a b : ℕ) → length (frame (pairShape kind w) (a ∷ b ∷ [])) ≡ 2 + w + w + 1
-length-pair kind w a b =
-    ap length (frame-parts kind w a b)
-    ∙ length-append (field 2 kind ++ field w a ++ field w b) (lineFeed ∷ [])
-    ∙ omega (arith, length-three kind w a b)
-
--- written one right after the other, each through the lent tail
-module _ (out : List ℕ) (kind w a b : ℕ) (room : 2 + w + w + 1 ≤ length out)
-    (out₁ tail₂ out₂ tail₃ out₃ : List ℕ)
-    (one : out₁ ≡ field 2 kind ++ drop 2 out)
-    (two : tail₂ ≡ field w a ++ drop w (take (length out₁ - 2) (drop 2 out₁)))
-    (back₂ : out₂ ≡ putMid 2 (length out₁ - 2) out₁ tail₂)
-    (three : tail₃ ≡ field w b ++ drop w (take (length out₂ - (2 + w)) (drop (2 + w) out₂)))
-    (back₃ : out₃ ≡ putMid (2 + w) (length out₂ - (2 + w)) out₂ tail₃) where
-  laid₁ : out₁ ≡ lay out 0 (field 2 kind)
-  laid₁ = one ∙ sym (lay-front out (field 2 kind) ∙ rw (length-field 2 kind))
-
-  laid₂ : out₂ ≡ lay out 0 (field 2 kind ++ field w a)
-  laid₂ =
-      back₂ ∙ laid-on out 0 (field 2 kind) out₁ laid₁ 2 (omega (arith, length-field 2 kind)) w (field w a) tail₂ (length-field w a) (omega arith) two
-
-  laid₃ : out₃ ≡ lay out 0 (field 2 kind ++ field w a ++ field w b)
-  laid₃ =
-      back₃
-      ∙ laid-on out 0 (field 2 kind ++ field w a) out₂ laid₂ (2 + w) (omega (arith, length-two kind w a)) w (field w b) tail₃ (length-field w b) (omega arith) three
-
-  -- the line stands at the front, and nothing after it differs
-  pub pair-written : set out₃ (2 + w + w) lineFeed ≡ frame (pairShape kind w) (a ∷ b ∷ []) ++ drop (2 + w + w + 1) out
-  pair-written =
-      laid-byte out 0 (field 2 kind ++ field w a ++ field w b) out₃ laid₃ (2 + w + w) (omega (arith, length-three kind w a b)) lineFeed (omega arith)
-      ∙ rw (← frame-parts kind w a b, lay-front out (frame (pairShape kind w) (a ∷ b ∷ [])), length-pair kind w a b)
-
-  -- the buffer keeps its length
-  pub pair-kept : length (set out₃ (2 + w + w) lineFeed) ≡ length out
-  pair-kept =
-      let text : List ℕ = frame (pairShape kind w) (a ∷ b ∷ []) in
-      ap length pair-written ∙ length-append text (drop (2 + w + w + 1) out) ∙ omega (arith, length-pair kind w a b, length-drop (2 + w + w + 1) out)
+length-pair kind w a b = length-frame (pairShape kind w) (a ∷ b ∷ []) refl ∙ omega arith

@@ -1,7 +1,7 @@
 -- What the structs say, as the rules' tables, and the structs that say a table: every row past the last is 0.
-use Prim.Native.Nat.{ℕ, _-_}
+use Prim.Native.Nat.{_-_}
 use mathlib.Core.Path.{_≡_}
-use mathlib.Core.List.{List, [], _∷_, _++_, map}
+use mathlib.Core.List.{List, [], _++_, map}
 use lib.ListN.{length, take, replicate}
 use Rattle.rules.specs.Limits.{tasksMax}
 use Rattle.rules.specs.Refusals.{Answer, taken, refused}

@@ -6,7 +6,7 @@ pub mod Judging
 pub mod Keys
 pub mod Inserting
 pub mod Ordering
-pub mod Laying
+pub mod Pieces
 pub mod Testing
 pub mod Splitting
 pub mod Structs

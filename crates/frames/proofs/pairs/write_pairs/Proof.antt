@@ -1,15 +1,11 @@
 -- `frames::pairs::write_pairs` meets its contract: a walk along the values that lays two digits for each.
 use Prim.Native.Nat.{_-_}
-use mathlib.Core.Path.{_≡_}
 use lib.ListN.{length, length-set}
 use Rattle.frames.proofs.PairLoop.{Going, start, turn, ended}
 use borrow.Author.Needs.{needs}
 use native.Mathlib.Omega.{arith}
 use Rattle.frames.proofs.pairs.write_pairs.Statement.{statement}
 use Rattle.frames.proofs.pairs.write_pairs.Tie as tie
-use Rattle.frames.proofs.pairs.write_pairs.Reads as reads
-use Rattle.frames.proofs.pairs.write_pairs.Lts as lts
-use Rattle.digits.proofs.digit.Reads as digit-reads
 
 abbrev Inv-loop : tie.InvT-loop
 Inv-loop out₀ values i₀ out i = Going out₀ values out i

@@ -1,14 +1,20 @@
 -- `frames::slot::write_slot` meets its contract: its fields are laid one right after the other.
-use mathlib.Core.Path.{_≡_, refl}
+use Prim.Native.Nat.{_+_, _*_}
+use native.Mathlib.Omega.{arith}
+use lib.ListN.{length}
 use denote.Ref.{now}
-use Rattle.frames.proofs.SlotFrame.{slot-written, slot-kept}
+use Rattle.laws.specs.Digits.{field}
+use Rattle.laws.proofs.Digits.{length-field}
+use Rattle.rules.specs.Runs.{slotLine}
+use Rattle.slot_laws.proofs.Lengths.{length-slotLine}
+use Rattle.reading_laws.proofs.Laying.{first, more, ends-at, fed, line-kept}
+use Rattle.frames.specs.Pairs.{pairs}
+use Rattle.frames.specs.Slots.{shownAs}
+use Rattle.frames.proofs.PairLoop.{length-pairs}
+use Rattle.frames.proofs.SlotFrame.{slot-parts}
 use borrow.Author.Needs.{needs}
 use Rattle.frames.proofs.slot.write_slot.Statement.{statement}
 use Rattle.frames.proofs.slot.write_slot.Tie as tie
-use Rattle.frames.proofs.slot.write_slot.Reads as reads
-use Rattle.frames.proofs.slot.write_slot.Lts as lts
-use Rattle.digits.proofs.write_field.Reads as write-field-reads
-use Rattle.frames.proofs.pairs.write_pairs.Reads as write-pairs-reads
 
 mul-end : tie.Need-mul-end
 mul-end c = search needs
@@ -76,27 +82,32 @@ write-field-requires-4 c κs = search needs
 slice-write-out : tie.Need-slice-write-out
 slice-write-out c = search needs
 
+returns : tie.Need-returns
+returns c =
+    let fifth = c .before .before in
+    let fourth = fifth .before .before .before .before in
+    let third = fourth .before .before .before .before in
+    let second = third .before .before .before .before in
+    let begun = second .before .before .before .before in
+    let start = begun .before .before .before .before in
+    let a = start .args in
+    let out = now (a .out) in
+    let cores = now (a .cores) in
+    let one = first out (field 2 0x13) 2 (length-field 2 0x13) (begun .write-field .ensures) in
+    let two = more out one (field 8 (a .slot)) 8 (length-field 8 (a .slot)) (omega arith) (second .write-field2 .ensures) in
+    let three = more out two (pairs cores) (2 * length cores) (length-pairs cores) (omega arith) (third .write-pairs .ensures) in
+    let end = ends-at out three (2 * length cores + 10) (omega arith) in
+    let four = more out end (field 2 (a .moves)) 2 (length-field 2 (a .moves)) (omega arith) (fourth .write-field3 .ensures) in
+    let five = more out four (field 2 (a .misses)) 2 (length-field 2 (a .misses)) (omega arith) (fifth .write-field4 .ensures) in
+    let all = ends-at out five (2 * length cores + 10 + 4) (omega arith) in
+    rw (slot-parts (a .slot) cores (a .moves) (a .misses)) (fed out all (2 * length cores + 15) (omega arith) (omega arith))
+
 same-length : tie.Need-same-length
 same-length c =
     let start = c .before .before .before .before .before .before .before .before .before .before .before .before .before .before .before .before .before .before .before .before .before .before in
-    let first = c .before .before .before .before .before .before .before .before .before .before .before .before .before .before .before .before .before .before .write-field in
-    let second = c .before .before .before .before .before .before .before .before .before .before .before .before .before .before .write-field2 in
-    let third = c .before .before .before .before .before .before .before .before .before .before .write-pairs in
-    let fourth = c .before .before .before .before .before .before .write-field3 in
-    let fifth = c .before .before .write-field4 in
-    slot-kept (start .args .slot) (now (start .args .cores)) (start .args .moves) (start .args .misses) (now (start .args .out)) (start .pre .1) _ _ _ _ _ _ _ _ _
-    (first .ensures) (second .ensures) refl (third .ensures) refl (fourth .ensures) refl (fifth .ensures) refl
-
-returns : tie.Need-returns
-returns c =
-    let start = c .before .before .before .before .before .before .before .before .before .before .before .before .before .before .before .before .before .before .before .before .before .before in
-    let first = c .before .before .before .before .before .before .before .before .before .before .before .before .before .before .before .before .before .before .write-field in
-    let second = c .before .before .before .before .before .before .before .before .before .before .before .before .before .before .write-field2 in
-    let third = c .before .before .before .before .before .before .before .before .before .before .write-pairs in
-    let fourth = c .before .before .before .before .before .before .write-field3 in
-    let fifth = c .before .before .write-field4 in
-    slot-written (start .args .slot) (now (start .args .cores)) (start .args .moves) (start .args .misses) (now (start .args .out)) (start .pre .1) _ _ _ _ _ _ _ _ _
-    (first .ensures) (second .ensures) refl (third .ensures) refl (fourth .ensures) refl (fifth .ensures) refl
+    let a = start .args in
+    let shown = shownAs (a .slot) (now (a .cores)) (a .moves) (a .misses) in
+    line-kept (now (a .out)) (slotLine shown) (length-slotLine shown) (start .pre .1) (returns c)
 
 pub write-slot-spec : {M : Type 1} → statement M
 write-slot-spec =

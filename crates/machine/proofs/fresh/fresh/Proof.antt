@@ -1,7 +1,7 @@
 -- `machine::fresh::fresh` meets its contract.
 use borrow.Author.Needs.{needs}
 use Rattle.reading_laws.proofs.Tests.{accepts-iff}
-use Rattle.machine.proofs.Arrays.{table-full}
+use Rattle.tables.proofs.Views.{table-full}
 use Rattle.machine.proofs.Passing.{analysis-accepted, taken-ranks}
 use Rattle.machine.proofs.Starting.{fresh-packed}
 use Rattle.machine.proofs.fresh.fresh.Statement.{statement}

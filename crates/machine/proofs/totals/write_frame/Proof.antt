@@ -5,7 +5,7 @@ use denote.Ref.{now}
 use Rattle.laws.specs.Digits.{field}
 use Rattle.laws.proofs.Digits.{length-field}
 use Rattle.rules.specs.Frames.{totals, frame}
-use Rattle.verdicts.proofs.Laying.{first, more, fed, line-kept}
+use Rattle.reading_laws.proofs.Laying.{first, more, fed, line-kept}
 use Rattle.machine.proofs.Totalling.{totals-parts, length-totals}
 use borrow.Author.Needs.{needs}
 use Rattle.machine.proofs.totals.write_frame.Statement.{statement}

@@ -1,7 +1,7 @@
 -- `reports::head::head_length` meets its contract.
 use native.Mathlib.Omega.{arith}
 use borrow.Author.Needs.{needs}
-use Rattle.machine.proofs.Arrays.{table-full}
+use Rattle.tables.proofs.Views.{table-full}
 use Rattle.reports.proofs.Heads.{count-is}
 use Rattle.reports.proofs.head.head_length.Statement.{statement}
 use Rattle.reports.proofs.head.head_length.Tie as tie

@@ -7,9 +7,9 @@ use Rattle.rules.specs.Runs.{verdictLine, orderLine}
 use Rattle.rules.specs.Tables.{size}
 use Rattle.rules.specs.Verdicts.{order}
 use Rattle.tables.specs.Views.{view}
-use Rattle.verdicts.proofs.Laying.{first, more}
+use Rattle.reading_laws.proofs.Laying.{first, more, laid-front}
 use Rattle.reports.specs.Heads.{headLength}
-use Rattle.reports.proofs.Heads.{length-verdictLine, length-ranksLine, laid-front}
+use Rattle.reports.proofs.Heads.{length-verdictLine, length-ranksLine}
 use Rattle.reports.proofs.head.write_head.Statement.{statement}
 use Rattle.reports.proofs.head.write_head.Tie as tie
 

@@ -12,7 +12,7 @@ use Rattle.rules.specs.Tables.{size}
 use Rattle.rules.specs.Verdicts.{order}
 use Rattle.priority_laws.proofs.Order.{order-length}
 use Rattle.tables.specs.Views.{view}
-use Rattle.machine.proofs.Arrays.{table-full}
+use Rattle.tables.proofs.Views.{table-full}
 use Rattle.reports.proofs.Heads.{count-is, ranks-front}
 use Rattle.reports.proofs.head.write_ranks.Statement.{statement}
 use Rattle.reports.proofs.head.write_ranks.Tie as tie

@@ -10,13 +10,13 @@ use Rattle.reports.proofs.Texts.{cores-few, size-is, size-small}
 use Rattle.reports.proofs.table.report_length.Statement.{statement}
 use Rattle.reports.proofs.table.report_length.Tie as tie
 
-module _ (c : tie.After-slots-length) where
+module _ (c : tie.After-length-of) where
   start : tie.Start
   start = c .before .before .before
 
-  whole : c .before .before .head-length .result + (c .slots-length .result + 51) ≡ reportLength (view (start .args .t))
+  whole : c .before .before .head-length .result + (c .length-of .result + 51) ≡ reportLength (view (start .args .t))
   unfolding start
-  whole = size-is (start .args .t) (start .pre) (c .before .before .head-length .ensures) (c .before .slots-of .ensures) (c .slots-length .ensures)
+  whole = size-is (start .args .t) (start .pre) (c .before .before .head-length .ensures) (c .before .slots-of .ensures) (c .length-of .ensures)
 
   small : reportLength (view (start .args .t)) ≤ textMax
   unfolding start
@@ -28,8 +28,8 @@ head-length-requires c κs = search needs
 slots-of-requires : tie.Need-slots-of-requires
 slots-of-requires c κs = search needs
 
-slots-length-requires : tie.Need-slots-length-requires
-slots-length-requires c κs = cores-few (c .before .before .args .t) (c .before .before .pre)
+length-of-requires : tie.Need-length-of-requires
+length-of-requires c κs = cores-few (c .before .before .args .t) (c .before .before .pre)
 
 add-result : tie.Need-add-result
 add-result c = omega (arith, whole c, small c)
@@ -47,7 +47,7 @@ report-length-spec =
     (tie.spec
     head-length-requires
     slots-of-requires
-    slots-length-requires
+    length-of-requires
     add-result
     add-result-2
     returns)

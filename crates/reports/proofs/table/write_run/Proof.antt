@@ -17,7 +17,7 @@ use Rattle.reports.proofs.table.write_run.Statement.{statement}
 use Rattle.reports.proofs.table.write_run.Tie as tie
 
 module _ (c : tie.After-run) where
-  sized : tie.After-slots-length
+  sized : tie.After-length-of
   sized = c .before .before .before
 
   start : tie.Start
@@ -27,9 +27,9 @@ module _ (c : tie.After-run) where
   unfolding start
   fine = accepted (start .args .t) (start .pre .opened)
 
-  ends : sized .slots-length .result ≡ start .args .count * frameLength (view (start .args .t) .m)
+  ends : sized .length-of .result ≡ start .args .count * frameLength (view (start .args .t) .m)
   unfolding sized start
-  ends = slots-end (start .args .t) (start .pre .opened) (start .args .count) (sized .slots-length .ensures)
+  ends = slots-end (start .args .t) (start .pre .opened) (start .args .count) (sized .length-of .ensures)
 
   at-end : c .run .result .state ≡ pack (after (start .args .count) (fresh (view (start .args .t))))
   unfolding sized start
@@ -37,8 +37,8 @@ module _ (c : tie.After-run) where
       end-state (view (start .args .t)) fine (start .args .count) (start .pre .few) (now (start .args .out)) (start .pre .room) (c .before .before .fresh .ensures)
       (c .run .ensures)
 
-slots-length-requires : tie.Need-slots-length-requires
-slots-length-requires c κs = cores-few (c .before .args .t) (c .before .pre .opened)
+length-of-requires : tie.Need-length-of-requires
+length-of-requires c κs = cores-few (c .before .args .t) (c .before .pre .opened)
 
 fresh-requires : tie.Need-fresh-requires
 fresh-requires c κs = search needs
@@ -83,7 +83,7 @@ pub write-run-spec : {M : Type 1} → statement M
 write-run-spec =
     tie.close
     (tie.spec
-    slots-length-requires
+    length-of-requires
     fresh-requires
     run-requires
     sub-write-totals

@@ -1,5 +1,4 @@
 -- `rules::kinds::is_outside` meets its contract.
-use mathlib.Core.Path.{_≡_, refl, sym, _∙_}
 use borrow.Author.Tests.{lt-ltb, le-ltb}
 use Rattle.rules.proofs.kinds.is_outside.Statement.{statement}
 use Rattle.rules.proofs.kinds.is_outside.Tie as tie

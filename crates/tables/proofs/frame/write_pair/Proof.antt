@@ -1,7 +1,13 @@
 -- `tables::frame::write_pair` meets its contract: three fields and the line feed, one right after the other.
-use mathlib.Core.Path.{refl}
+use Prim.Native.Nat.{_+_}
+use mathlib.Core.List.{[], _∷_}
 use denote.Ref.{now}
-use Rattle.tables.proofs.Pairs.{pair-written, pair-kept}
+use Rattle.laws.specs.Digits.{field}
+use Rattle.laws.proofs.Digits.{length-field}
+use Rattle.rules.specs.Frames.{frame}
+use Rattle.reading_laws.proofs.Laying.{first, more, fed, line-kept}
+use Rattle.tables.specs.Pairs.{pairShape}
+use Rattle.tables.proofs.Pairs.{frame-parts, length-pair}
 use native.Mathlib.Omega.{arith}
 use borrow.Author.Needs.{needs}
 use Rattle.tables.proofs.frame.write_pair.Statement.{statement}
@@ -46,19 +52,25 @@ write-field-requires-3 c κs = search needs
 slice-write-out : tie.Need-slice-write-out
 slice-write-out c = omega arith
 
-same-length : tie.Need-same-length
-same-length c =
-    let third = c .before .before .write-field3 in
-    let second = c .before .before .before .before .before .before .write-field2 in
-    let first = c .before .before .before .before .before .before .before .before .before .before .write-field in
-    pair-kept (now (c .before .before .before .before .before .before .before .before .before .before .before .before .before .args .out)) _ _ _ _ (c .before .before .before .before .before .before .before .before .before .before .before .before .before .pre) _ _ _ _ _ (first .ensures) (second .ensures) refl (third .ensures) refl
-
 returns : tie.Need-returns
 returns c =
-    let third = c .before .before .write-field3 in
-    let second = c .before .before .before .before .before .before .write-field2 in
-    let first = c .before .before .before .before .before .before .before .before .before .before .write-field in
-    pair-written _ _ _ _ _ (c .before .before .before .before .before .before .before .before .before .before .before .before .before .pre) _ _ _ _ _ (first .ensures) (second .ensures) refl (third .ensures) refl
+    let third = c .before .before in
+    let second = third .before .before .before .before in
+    let begun = second .before .before .before .before in
+    let start = begun .before .before .before in
+    let a = start .args in
+    let out = now (a .out) in
+    let w = a .width in
+    let one = first out (field 2 (a .kind)) 2 (length-field 2 (a .kind)) (begun .write-field .ensures) in
+    let two = more out one (field w (a .a)) w (length-field w (a .a)) (omega arith) (second .write-field2 .ensures) in
+    let three = more out two (field w (a .b)) w (length-field w (a .b)) (omega arith) (third .write-field3 .ensures) in
+    rw (frame-parts (a .kind) w (a .a) (a .b)) (fed out three (2 + w + w + 1) (omega arith) (omega arith))
+
+same-length : tie.Need-same-length
+same-length c =
+    let start = c .before .before .before .before .before .before .before .before .before .before .before .before .before in
+    let a = start .args in
+    line-kept (now (a .out)) (frame (pairShape (a .kind) (a .width)) (a .a ∷ a .b ∷ [])) (length-pair (a .kind) (a .width) (a .a) (a .b)) (start .pre) (returns c)
 
 pub write-pair-spec : {M : Type 1} → statement M
 write-pair-spec =

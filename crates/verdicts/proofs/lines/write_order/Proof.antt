@@ -10,7 +10,8 @@ use Rattle.frames.specs.Pairs.{pairs}
 use Rattle.frames.proofs.PairLoop.{length-pairs}
 use Rattle.rules.specs.Frames.{frame}
 use Rattle.rules.specs.Runs.{orderLine}
-use Rattle.verdicts.proofs.Laying.{length-orderLine, first, more, fed, line-kept}
+use Rattle.reading_laws.proofs.Laying.{first, more, fed, line-kept}
+use Rattle.verdicts.proofs.Pieces.{length-orderLine}
 use Rattle.verdicts.proofs.lines.write_order.Statement.{statement}
 use Rattle.verdicts.proofs.lines.write_order.Tie as tie
 

@@ -6,7 +6,8 @@ use Rattle.laws.specs.Digits.{field}
 use Rattle.laws.proofs.Digits.{length-field}
 use Rattle.rules.specs.Verdicts.{verdictByte}
 use Rattle.verdicts.specs.Lines.{verdictFrame}
-use Rattle.verdicts.proofs.Laying.{length-verdict, verdict-parts, first, more, fed, line-kept}
+use Rattle.reading_laws.proofs.Laying.{first, more, fed, line-kept}
+use Rattle.verdicts.proofs.Pieces.{length-verdict, verdict-parts}
 use Rattle.verdicts.proofs.lines.write_verdict.Statement.{statement}
 use Rattle.verdicts.proofs.lines.write_verdict.Tie as tie
 

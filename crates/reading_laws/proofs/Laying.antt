@@ -1,20 +1,13 @@
 -- A line laid at the front of a buffer, piece by piece, each through the lent tail, and its line feed.
-use Prim.Native.Nat.{ℕ, _+_, _-_, _*_, _≤_}
-use mathlib.Core.Path.{_≡_, refl, ap, _∙_}
-use mathlib.Core.List.{List, [], _∷_, _++_, append-assoc, append-nil}
+use Prim.Native.Nat.{ℕ, _+_, _-_, _≤_}
+use mathlib.Core.Path.{_≡_, ap, _∙_}
+use mathlib.Core.List.{List, [], _∷_, _++_}
 use native.Mathlib.Omega.{arith}
 use borrow.Rule.Slice.PartMut.{midOf, putMid}
 use lib.ListN.{length, drop, set, length-append, length-drop}
-use Rattle.laws.specs.Digits.{field}
-use Rattle.laws.proofs.Digits.{length-field}
 use Rattle.rules.specs.Answers.{lay}
-use Rattle.rules.specs.Frames as Frames
-use Rattle.rules.specs.Frames.{lineFeed, fields, frame}
-use Rattle.rules.specs.Runs.{orderLine}
-use Rattle.reading_laws.proofs.Frames.{length-frame}
+use Rattle.rules.specs.Frames.{lineFeed}
 use Rattle.reading_laws.proofs.Lays.{lay-front, laid-on, laid-byte}
-use Rattle.frames.specs.Pairs.{pairs}
-use Rattle.frames.proofs.PairLoop.{length-pairs}
 
 -- so far a text of some length was laid
 pub record Laid (out text now : List ℕ) (end : ℕ) : Type 0 where
@@ -36,6 +29,14 @@ module _ (out : List ℕ) where
           ends = length-append text next ∙ omega (arith, laid .ends);
         }
 
+    -- where it ends, said otherwise
+    pub ends-at : (n : ℕ) → end ≡ n → Laid out text now n
+    ends-at n e = record { whole = laid .whole; ends = laid .ends ∙ e }
+
+    -- it stands at the front, and nothing after it differs
+    pub laid-front : (n : ℕ) → end ≡ n → now ≡ text ++ drop n out
+    laid-front n e = laid .whole ∙ lay-front out text ∙ ap (λ (k : ℕ). text ++ drop k out) (laid .ends ∙ e)
+
     -- the line feed
     pub fed : (n : ℕ) → end + 1 ≡ n → n ≤ length out → set now end lineFeed ≡ text ++ (lineFeed ∷ []) ++ drop n out
     fed n last room =
@@ -47,19 +48,3 @@ module _ (out : List ℕ) where
   -- a line at the front of the buffer takes the place of as many bytes
   pub line-kept : (line : List ℕ) {now : List ℕ} {n : ℕ} → length line ≡ n → n ≤ length out → now ≡ line ++ drop n out → length now ≡ length out
   line-kept line {now} {n} len room e = ap length e ∙ length-append line (drop n out) ∙ omega (arith, length-drop n out)
-
--- frame `11` by its pieces
-pub verdict-parts : (b heavy h : ℕ)
-    → frame Frames.verdict (b ∷ heavy ∷ h ∷ []) ≡ field 2 0x11 ++ field 2 b ++ field 2 heavy ++ field 8 h ++ (lineFeed ∷ [])
-unfolding frame fields
-verdict-parts b heavy h = simp (append-assoc, append-nil)
-
--- how long the two lines of a table are
-pub length-verdict : (b heavy h : ℕ) → length (frame Frames.verdict (b ∷ heavy ∷ h ∷ [])) ≡ 15
-length-verdict b heavy h = length-frame Frames.verdict (b ∷ heavy ∷ h ∷ []) refl
-
-pub length-orderLine : (ranks : List ℕ) → length (orderLine ranks) ≡ 2 * length ranks + 3
-unfolding orderLine frame pairs
-length-orderLine ranks =
-    length-append (field 2 0x12 ++ pairs ranks) (lineFeed ∷ [])
-    ∙ omega (arith, length-append (field 2 0x12) (pairs ranks), length-field 2 0x12, length-pairs ranks)
