@@ -20,7 +20,7 @@ use Rattle.rules.specs.declared.refusal.Refusal.the-variants.{NoRoom, BadState}
 use Rattle.tables.specs.Views as Tables
 use Rattle.tables.specs.Writes.{Wrote, made, wrote}
 use Rattle.tables.specs.declared.write.WriteAnswer.the-variants.{Written, Refused}
-use Rattle.reading_laws.proofs.Lays.{length-lay, lay-lent, laid-on, lay-front}
+use Rattle.reading_laws.proofs.Lays.{length-lay, lay-lent, lay-front}
 use Rattle.reading_laws.proofs.Laying.{Laid, first, more, ends-at, laid-front}
 use Rattle.machine.specs.Full.{Full}
 use Rattle.machine.specs.Views.{tasks, taskNumber, coreNumber, units, view, formed}
@@ -123,7 +123,7 @@ pub record Recording (out₀ : List ℕ) (s : State) (out : List ℕ) (at i : �
   pub place : at ≡ 34 * i
   pub room : 34 * tasks s ≤ length out₀
   pub kept : length out ≡ length out₀
-  pub laid : out ≡ lay out₀ 0 (join (map (recordOf (view s)) (numbers i)))
+  pub laid : Laid out₀ (join (map (recordOf (view s)) (numbers i))) out at
 
 module _ (s : State) where
   long : (i : ℕ) → length (recordOf (view s) i) ≡ 34
@@ -132,7 +132,7 @@ module _ (s : State) where
 module _ (out₀ : List ℕ) (s : State) where
   pub recording-starts : Full s → Room s (34 * tasks s) out₀ → Recording out₀ s out₀ 0 0
   recording-starts full r =
-      record { full = full; few = r .few; within = zero-le; place = refl; room = r .room; kept = refl; laid = sym (lay-front out₀ []) }
+      record { full = full; few = r .few; within = zero-le; place = refl; room = r .room; kept = refl; laid = record { whole = sym (lay-front out₀ []); ends = refl } }
 
   module _ (out : List ℕ) (at i : ℕ) (w : Recording out₀ s out at i) where
     -- there is room for one more
@@ -145,36 +145,31 @@ module _ (out₀ : List ℕ) (s : State) where
     recording-goes-on l tail e =
         let before : List ℕ = join (map (recordOf (view s)) (numbers i)) in
         let next : List ℕ = recordOf (view s) (i + 1) in
-        let so-far : length before ≡ at = length-records (recordOf (view s)) 34 (long s) 1 i ∙ sym (w .place) in
         let here : tail ≡ next ++ drop 34 (midOf at (length out - at) out) =
         e ∙ ap (λ (vs : List ℕ). written taskWidths vs ++ drop 34 (midOf at (length out - at) out)) (sym (task-entries s (w .full) (w .few) i l))
         in
         let one-more : i + 1 ≡ 1 + i = omega arith in
-        let more : before ++ next ≡ join (map (recordOf (view s)) (numbers (i + 1))) =
+        let joined : before ++ next ≡ join (map (recordOf (view s)) (numbers (i + 1))) =
         sym (join-last (map (recordOf (view s)) (numbers i)) next)
         ∙ ap join (ap (λ (k : ℕ). map (recordOf (view s)) (numbers i) ++ (recordOf (view s) k ∷ [])) one-more ∙ sym (from-snoc (recordOf (view s)) 1 i) ∙ ap (λ (k : ℕ). map (recordOf (view s)) (numbers k)) (sym (add-one i)))
         in
-        let laid : putMid at (length out - at) out tail ≡ lay out₀ 0 (before ++ next) =
-        laid-on out₀ 0 before out (w .laid) at (omega arith) 34 next tail (long s (i + 1)) (omega (arith, w .room, w .place)) here
-        in
+        let fits : at + 34 ≤ length out₀ = omega (arith, w .room, w .place) in
+        let laid = more out₀ (w .laid) next 34 (long s (i + 1)) fits here in
         record {
           full = w .full;
           few = w .few;
           within = omega arith;
           place = omega (arith, w .place);
           room = w .room;
-          kept = ap length laid ∙ length-lay out₀ 0 (before ++ next) (omega (arith, length-append before next, long s (i + 1), w .room, w .place));
-          laid = laid ∙ ap (lay out₀ 0) more;
+          kept = ap length (laid .whole) ∙ length-lay out₀ 0 (before ++ next) (omega (arith, laid .ends));
+          laid = record { whole = laid .whole ∙ ap (lay out₀ 0) joined; ends = ap length (sym joined) ∙ laid .ends };
         }
 
     pub recording-ends : tasks s ≤ i → out ≡ join (map (recordOf (view s)) (numbers (tasks s))) ++ drop (34 * tasks s) out₀
     recording-ends h =
         let e : i ≡ tasks s = omega (arith, w .within) in
-        let all-of : List ℕ = join (map (recordOf (view s)) (numbers (tasks s))) in
-        w .laid
-        ∙ ap (λ (k : ℕ). lay out₀ 0 (join (map (recordOf (view s)) (numbers k)))) e
-        ∙ lay-front out₀ all-of
-        ∙ ap (λ (k : ℕ). all-of ++ drop k out₀) (length-records (recordOf (view s)) 34 (long s) 1 (tasks s))
+        laid-front out₀ (w .laid) (34 * tasks s) (omega (arith, w .place))
+        ∙ ap (λ (k : ℕ). join (map (recordOf (view s)) (numbers k)) ++ drop (34 * tasks s) out₀) e
 
 -- ---- the whole state
 
