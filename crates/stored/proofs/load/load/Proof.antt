@@ -31,7 +31,7 @@ refused-requires-2 c κs = search needs
 returns-2 : tie.Need-returns-2
 returns-2 c =
     let at = c .before .before .before in
-    c .refused2 .ensures ∙ wrong-length _ (at .if1 .left) (c .before .if2 .taken)
+    c .refused2 .ensures ∙ wrong-length (at .before .before .args .bytes .now) (at .if1 .left) (c .before .if2 .taken)
 
 refused-requires-3 : tie.Need-refused-requires-3
 refused-requires-3 c κs = search needs
