@@ -1,45 +1,22 @@
 -- Frames `11` and `12` of a stored state's table, and the reply.
-use Prim.Native.Nat.{ℕ, _+_, _-_, _≤_, _<_}
+use Prim.Native.Nat.{ℕ}
 use mathlib.Core.Path.{_≡_, ap, _∙_}
-use mathlib.Core.List.{List, _++_}
-use native.Mathlib.Omega.{arith}
-use borrow.Author.Tests.{lt-ltb, le-ltb}
-use borrow.Rule.Slice.PartMut.{midOf, putMid}
-use lib.ListN.{length, drop}
+use mathlib.Core.List.{List}
 use Rattle.rules.specs.Refusals.{Answer, taken, refused, andThen}
 use Rattle.rules.specs.Tables as Rules
 use Rattle.rules.specs.States.{State}
-use Rattle.rules.specs.Answers.{roomTest}
-use Rattle.rules.specs.declared.refusal.Refusal.the-variants.{NoRoom}
-use Rattle.reading_laws.proofs.Lays.{lay-lent}
-use Rattle.tables.specs.Writes.{made, wrote}
+use Rattle.tables.specs.Writes.{made}
 use Rattle.tables.specs.declared.write.WriteAnswer.{WriteAnswer}
-use Rattle.tables.specs.declared.write.WriteAnswer.the-variants.{Written, Refused}
 use Rattle.tables.proofs.Views.{view-pack}
 use Rattle.machine.specs.Views.{pack}
 use Rattle.stored.specs.Layout.{load}
 use Rattle.stored.specs.Answers.{stateAnswer}
 use Rattle.stored.specs.declared.load.StateAnswer.{StateAnswer}
 use Rattle.reports.specs.Heads.{head}
+use Rattle.reports.specs.Written.{wroteText}
 use Rattle.capi.specs.Calls.{reply, replied, filled, laid, giveVerdict}
-use Rattle.capi.specs.Answers.{numbered, wroteText, headOf}
+use Rattle.capi.specs.Answers.{numbered, headOf}
 use Rattle.capi.proofs.Replying.{text-replied, refusal-replied}
-
--- ---- a text of so many bytes, by the test for room
-
-module _ (out : List ℕ) (place : ℕ) (txt : List ℕ) (n : ℕ) (long : length txt ≡ n) where
-  pub text-short : length out < place + n → made (Refused NoRoom) out ≡ wroteText out place txt
-  unfolding wroteText wrote roomTest
-  text-short h = rw (lt-ltb (length out) (place + length txt) (omega arith))
-
-  -- it was written through the lent tail
-  pub text-written : place + n ≤ length out → (tail : List ℕ) → tail ≡ txt ++ drop n (midOf place (length out - place) out)
-      → made (Written n) (putMid place (length out - place) out tail) ≡ wroteText out place txt
-  unfolding wroteText wrote roomTest
-  text-written room tail e =
-      rw (lay-lent out place n txt tail long (omega arith) e, ← long, le-ltb (length out) (place + length txt) (omega arith))
-
--- ---- the reply
 
 module _ (out : List ℕ) (place before : ℕ) {w : WriteAnswer} {out′ : List ℕ} {number size : ℕ} (settled : reply number size ≡ numbered before w) where
   replied-head : (a : Answer State) → made w out′ ≡ headOf (stateAnswer a .outcome) (stateAnswer a .state .table) out place

@@ -25,7 +25,8 @@ use Rattle.stored.specs.Layout.{lengthOf, store, sizeIn, decoded, load}
 use Rattle.stored.specs.Answers.{noState, stateAnswer, storeState, storedState}
 use Rattle.stored.specs.declared.load.StateAnswer.{StateAnswer}
 use Rattle.stored.proofs.Round.{decoded-size}
-use Rattle.capi.specs.Answers.{wroteText, Judgeable}
+use Rattle.reports.specs.Written.{wroteText}
+use Rattle.capi.specs.Answers.{Judgeable}
 
 -- ---- the struct of a well-formed state
 

@@ -32,7 +32,8 @@ use Rattle.machine.proofs.Starting.{opened}
 use Rattle.stored.specs.Layout.{store}
 use Rattle.stored.specs.Answers.{storedState}
 use Rattle.capi.specs.Calls.{reply, replied, filled, sized, laid, openTable, lineOf}
-use Rattle.capi.specs.Answers.{numbered, lineIn, wroteText, Startable, freshOf}
+use Rattle.reports.specs.Written.{wroteText}
+use Rattle.capi.specs.Answers.{numbered, lineIn, Startable, freshOf}
 use Rattle.capi.proofs.Replying.{text-replied, refusal-replied}
 use Rattle.capi.proofs.Loading.{stored-packed}
 

@@ -10,7 +10,8 @@ use Rattle.tables.specs.Writes.{Wrote, made, wrote}
 use Rattle.tables.specs.declared.write.WriteAnswer.{WriteAnswer}
 use Rattle.tables.specs.declared.write.WriteAnswer.the-variants.{Refused}
 use Rattle.capi.specs.Calls.{reply, replied, Filled, filled, sized, laid}
-use Rattle.capi.specs.Answers.{numbered, wroteText}
+use Rattle.reports.specs.Written.{wroteText}
+use Rattle.capi.specs.Answers.{numbered}
 
 -- the answer and the buffer, then the number and the size
 module _ (out : List ℕ) (before : ℕ) {w : WriteAnswer} {out′ : List ℕ} {number size : ℕ} (settled : reply number size ≡ numbered before w) where

@@ -40,7 +40,7 @@ use Rattle.stored.specs.Answers.{stateAnswer, storedState}
 use Rattle.stored.specs.declared.load.StateAnswer.{StateAnswer}
 use Rattle.stored.proofs.Round.{length-store}
 use Rattle.capi.specs.Calls.{reply, replied, Run, run, runStored}
-use Rattle.capi.specs.Answers.{wroteText}
+use Rattle.reports.specs.Written.{wroteText}
 use Rattle.capi.proofs.Loading.{stored-packed, Loads, well, ill, loads, asked-loaded}
 
 -- ---- bytes stored over bytes of the same length

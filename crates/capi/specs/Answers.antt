@@ -1,13 +1,11 @@
 -- What the functions behind the calls answer, as the calls return and leave it.
 use Prim.Native.Nat.{ℕ}
 use mathlib.Core.Path.{_≡_}
-use mathlib.Core.List.{List, [], _∷_}
-use lib.ListN.{length}
-use Rattle.rules.specs.Refusals.{numberOf, settle}
+use mathlib.Core.List.{List}
+use Rattle.rules.specs.Refusals.{numberOf}
 use Rattle.rules.specs.States.{fresh}
-use Rattle.rules.specs.Answers.{lay, roomTest}
 use Rattle.tables.specs.Views.{view}
-use Rattle.tables.specs.Writes.{Wrote, made, wrote}
+use Rattle.tables.specs.Writes.{Wrote, made}
 use Rattle.tables.specs.declared.table.Table.{Table}
 use Rattle.tables.specs.declared.table.Outcome.{Outcome}
 use Rattle.tables.specs.declared.table.Outcome.the-variants as outcome
@@ -20,6 +18,7 @@ use Rattle.stored.specs.declared.load.Outcome as loadOutcome
 use Rattle.stored.specs.declared.load.Outcome.the-variants as loaded
 use Rattle.stored.specs.declared.load.StateAnswer.{StateAnswer}
 use Rattle.reports.specs.Heads.{head}
+use Rattle.reports.specs.Written.{wroteText}
 use Rattle.capi.specs.Calls.{Reply, reply}
 
 -- the number of an answer, and the size after it
@@ -31,10 +30,6 @@ numbered before (Refused r) = reply (numberOf r) before
 abbrev pub lineIn : Outcome → ℕ
 lineIn outcome.Taken = 0
 lineIn (outcome.Refused r l) = l
-
--- a text written into a buffer from a place on, or 7
-unfoldable pub wroteText : List ℕ → ℕ → List ℕ → Wrote
-wroteText out place txt = wrote (length txt) out (settle (roomTest out place (length txt) ∷ []) (lay out place txt))
 
 -- where a table was taken, a run can start with it
 abbrev pub Startable : TableAnswer → Type 0

@@ -14,7 +14,8 @@ ghost use Rattle.tables.specs.Writes.{made};
 ghost use Rattle.machine.specs.Tables.{Opened};
 ghost use Rattle.reports.specs.Heads.{head};
 ghost use Rattle.capi.specs.Calls.{reply, replied, filled, giveVerdict};
-ghost use Rattle.capi.specs.Answers.{wroteText, Judgeable, headOf};
+ghost use Rattle.reports.specs.Written.{wroteText};
+ghost use Rattle.capi.specs.Answers.{Judgeable, headOf};
 
 // Both frames of a table, from a place of the buffer on.
 fn write_head_at(t: Table, out: &mut [u8], at: usize) -> WriteAnswer

@@ -1,10 +1,10 @@
 -- The parts of one slot in their order: what each asks follows from what the slot asks, and together they leave what it says.
 use Prim.Native.Nat.{ℕ, zero, suc, _+_, _-_, _≤_, _<_, zero-le}
 use mathlib.Core.Path.{_≡_, sym, ap, _∙_}
-use mathlib.Core.Bool.{Bool, true, false, cond, _&&_}
+use mathlib.Core.Bool.{cond, _&&_}
 use mathlib.Core.Logic.{⊎-elim}
 use mathlib.Core.List.{List, _++_}
-use native.Mathlib.Nat.{le-refl, le-trans, not-suc-le-zero, eq-or-lt-of-le}
+use native.Mathlib.Nat.{le-trans, not-suc-le-zero, eq-or-lt-of-le}
 use native.Mathlib.Decide.{decLe}
 use native.Mathlib.Omega.{arith}
 use lib.Dec.{eqb, ltb}
@@ -22,7 +22,7 @@ use Rattle.engine.specs.Ends.{nextPhase, Ending, Ended}
 use Rattle.engine.specs.Ends.{ending as endsAt}
 use Rattle.engine.specs.Placing.{Placing, Placed}
 use Rattle.engine.specs.Work.{Working, Worked}
-use Rattle.engine.specs.Step.{Stepped, stepped, releasedOn, coresOn, workedOn, effectOn, stepOn, Ready}
+use Rattle.engine.specs.Step.{Stepped, stepped, coresOn, workedOn, effectOn, stepOn, Ready}
 
 -- where a number other than 0 stands is a position of the list
 at-positive : (l : List ℕ) (i : ℕ) → 1 ≤ at l i → (1 ≤ i) × (i ≤ length l)

@@ -2,5 +2,6 @@ pub mod Heads
 pub mod Taking
 pub mod Texts
 pub mod Replies
+pub mod Written
 pub mod Reporting
 pub mod Unique

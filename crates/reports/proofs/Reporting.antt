@@ -5,7 +5,7 @@ use mathlib.Core.Bool.{true, false}
 use mathlib.Core.Logic.{⊎-elim}
 use mathlib.Core.List.{List, _++_}
 use native.Mathlib.Omega.{arith}
-use borrow.Author.Tests.{ltb-true, ltb-false, lt-ltb, le-ltb}
+use borrow.Author.Tests.{ltb-true, ltb-false, le-ltb}
 use borrow.Rule.Slice.PartMut.{putMid}
 use lib.Dec.{ltb}
 use lib.ListN.{length, take, drop, length-append}
@@ -16,12 +16,12 @@ use Rattle.rules.specs.Refusals.{Answer, taken, refused, numberOf}
 use Rattle.rules.specs.Tables as Rules
 use Rattle.rules.specs.Tables.{size}
 use Rattle.rules.specs.Files.{readFile}
-use Rattle.rules.specs.Answers.{lay, roomTest}
+use Rattle.rules.specs.Answers.{roomTest}
 use Rattle.rules.specs.Program.{reply, program}
 use Rattle.rules.specs.declared.refusal.Refusal.{Refusal}
 use Rattle.rules.specs.declared.refusal.Refusal.the-variants.{NoRoom}
 use Rattle.slot_laws.proofs.Forms.{Accepted, accepted}
-use Rattle.reading_laws.proofs.Lays.{lay-lent, lay-front}
+use Rattle.reading_laws.proofs.Lays.{lay-front}
 use Rattle.reading_laws.proofs.Files.{written-read}
 use Rattle.tables.specs.Views.{tableAnswer}
 use Rattle.tables.specs.Writes.{Wrote, made, wrote}
@@ -29,8 +29,10 @@ use Rattle.tables.specs.declared.table.TableAnswer.{TableAnswer}
 use Rattle.tables.specs.declared.write.WriteAnswer.{WriteAnswer}
 use Rattle.tables.specs.declared.write.WriteAnswer.the-variants.{Written, Refused}
 use Rattle.reports.specs.Texts.{slotsOf}
+use Rattle.reports.specs.Written.{wroteText}
 use Rattle.reports.specs.Reports.{textMax, reportOf, Printed, replyTo}
 use Rattle.reports.proofs.Texts.{length-report, text-bound}
+use Rattle.reports.proofs.Written.{text-short, text-written}
 use Rattle.reports.proofs.Replies.{length-refusal, reply-answer}
 
 -- ---- the start of the input
@@ -57,19 +59,17 @@ module _ (input out : List ℕ) (place : ℕ) {a : TableAnswer} (is : a ≡ tabl
 
   -- there is no room for it
   pub no-room : length out < place + size → made (Refused NoRoom) out ≡ reportOf input out place
-  unfolding reportOf wrote roomTest
-  no-room h = rw (size-is, lt-ltb (length out) (place + size) h)
+  unfolding reportOf
+  no-room h = text-short out place (program input) size size-is h
 
   -- there is, and it was written through the lent tail
   pub room-given : {tail : List ℕ} → place + size ≤ length out
       → tail ≡ replyTo a ++ drop (length (replyTo a)) (take (length out - place) (drop place out))
       → made (Written size) (putMid place (length out - place) out tail) ≡ reportOf input out place
-  unfolding reportOf wrote roomTest
+  unfolding reportOf
   room-given {tail} h e =
-      let laid : putMid place (length out - place) out tail ≡ lay out place (program input) =
-      lay-lent out place (length (replyTo a)) (replyTo a) tail refl (omega arith) e ∙ ap (lay out place) text-is
-      in
-      rw (size-is, le-ltb (length out) (place + size) h, laid)
+      text-written out place (program input) size size-is h tail
+      (e ∙ ap (λ (l : List ℕ). l ++ drop (length l) (take (length out - place) (drop place out))) text-is ∙ rw size-is)
 
 -- ---- how long it is
 
@@ -89,7 +89,7 @@ program-short input = reply-short (take inputMax input) (readFile (take inputMax
 
 module _ (input out : List ℕ) (room : textMax ≤ length out) {r : WriteAnswer} {out′ : List ℕ} (made-so : made r out′ ≡ reportOf input out 0) where
   all-written : made r out′ ≡ made (Written (length (program input))) (program input ++ drop (length (program input)) out)
-  unfolding reportOf wrote roomTest
+  unfolding reportOf wroteText wrote roomTest
   all-written =
       let fits : 0 + length (program input) ≤ length out = omega (arith, program-short input) in
       made-so ∙ rw (le-ltb (length out) (0 + length (program input)) fits) (ap (made (Written (length (program input)))) (lay-front out (program input)))

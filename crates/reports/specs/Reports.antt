@@ -1,29 +1,27 @@
 -- The program's text for any input, in a lent buffer.
 use Prim.Native.Nat.{ℕ, _≤_}
 use mathlib.Core.Path.{_≡_}
-use mathlib.Core.List.{List, [], _∷_, _++_}
+use mathlib.Core.List.{List, _++_}
 use lib.ListN.{length, drop}
-use Rattle.rules.specs.Refusals.{Answer, taken, refused, settle}
+use Rattle.rules.specs.Refusals.{Answer, taken, refused}
 use Rattle.rules.specs.Tables as Rules
 use Rattle.rules.specs.Files.{readFile}
-use Rattle.rules.specs.Answers.{lay, roomTest}
 use Rattle.rules.specs.Program.{reply, program}
 use Rattle.tables.specs.Views.{view, tableAnswer}
-use Rattle.tables.specs.Writes.{Wrote, wrote}
+use Rattle.tables.specs.Writes.{Wrote}
 use Rattle.tables.specs.declared.table.Table.{Table}
 use Rattle.tables.specs.declared.table.Outcome.{Outcome}
 use Rattle.tables.specs.declared.table.Outcome.the-variants as Outcomes
 use Rattle.tables.specs.declared.table.TableAnswer.{TableAnswer}
+use Rattle.reports.specs.Written.{wroteText}
 
 -- no text is longer: 146 bytes before the slots of 64 tasks, 4,096 frames of 32 cores with 79 bytes each, 51 for the totals
 abbrev pub textMax : ℕ
 textMax = 323_781
 
--- how many bytes were written with the buffer that has them; where there is no room for all of them, 7 with the buffer as it was
+-- the text in the buffer from a place on
 unfoldable pub reportOf : List ℕ → List ℕ → ℕ → Wrote
-reportOf input out place =
-    let txt : List ℕ = program input in
-    wrote (length txt) out (settle (roomTest out place (length txt) ∷ []) (lay out place txt))
+reportOf input out place = wroteText out place (program input)
 
 -- the text at the front of a buffer, all of it, and how many bytes it has
 pub record Printed (input out : List ℕ) (n : ℕ) (out′ : List ℕ) : Type 0 where

@@ -6,7 +6,6 @@ use lib.Seq.{length-take-le}
 use Rattle.runs.specs.Slots.{stateOf}
 use Rattle.runs.proofs.SlotLoop.{Run, few-tasks, lengths, before, told, still, few-cores, start, place-room, slot-ready, frame-room, moves-fit, misses-fit, turn, last-lengths, left-end, ended, last-size, done-size, dropped-size, phase-size, out-size}
 use native.Mathlib.Omega.{arith}
-use borrow.Author.Needs.{needs}
 use Rattle.runs.proofs.slots.run_slots.Statement.{statement}
 use Rattle.runs.proofs.slots.run_slots.Tie as tie
 
