@@ -13,7 +13,7 @@ use Rattle.rules.specs.Slots.{place, keepCores, placed}
 use Rattle.slot_laws.proofs.Choosing.{Choice}
 use Rattle.slot_laws.proofs.Placing.{keep-length, others-room, kept-or-other}
 use Rattle.engine.specs.Choice.{Named}
-use Rattle.engine.specs.Placing.{Placing, Keeping, Kept, unplaced, Filling, Filled, Placed}
+use Rattle.engine.specs.Placing.{Idle, Placing, Keeping, Kept, unplaced, Filling, Filled, Placed}
 use Rattle.engine.proofs.Remembering.{kept-seated}
 
 -- a part of tasks are tasks
@@ -30,30 +30,16 @@ named-part q {n} {l} h =
         let s : StandsAt x l (position x l) = position-stands x l (omega (arith, entry-counted (filter q l) j more, count-filter-le q (eqb x) l)) in
         subst P (sym (at-pred l (position x l) (s .low)) ∙ s .here) (all (position x l - 1) (omega (arith, s .low, s .high)))
 
-module _ {chosen last before idle : List ℕ} (p : Placing chosen last before) (cleared : idle ≡ replicate (length before) 0) where
-  -- the first pass is handed idle cores, and a place for each chosen task
-  pub keeping : (spare : List ℕ) → length before ≤ length spare → Keeping chosen last idle (take (length before) spare)
-  keeping spare enough =
-      let size : length idle ≡ length before = ap length cleared ∙ length-replicate (length before) 0 in
-      record {
-        placing =
-            record {
-              few = omega (arith, p .few);
-              once = p .once;
-              real = p .real;
-              named = p .named;
-              lasts = λ j h. omega (arith, p .lasts j h);
-              small = omega (arith, p .small);
-            };
-        idle = cleared ∙ ap (λ (n : ℕ). replicate n 0) (sym size);
-        room = omega (arith, p .few, length-take (length before) spare);
-      }
+module _ {chosen last cores : List ℕ} (p : Placing chosen last cores) (idle : Idle cores) where
+  -- the first pass is handed a place for each chosen task
+  pub keeping : (spare : List ℕ) → length cores ≤ length spare → Keeping chosen last cores (take (length cores) spare)
+  keeping spare enough = record { placing = p; idle = idle; room = omega (arith, p .few, length-take (length cores) spare) }
 
-  module _ {lent kept others : List ℕ} {n : ℕ} (k : Kept chosen last idle lent kept others n) where
-    kept-is : kept ≡ keepCores last chosen (replicate (length before) 0)
-    kept-is = k .kept ∙ ap (keepCores last chosen) cleared
+  module _ {lent kept others : List ℕ} {n : ℕ} (k : Kept chosen last cores lent kept others n) where
+    kept-is : kept ≡ keepCores last chosen (replicate (length cores) 0)
+    kept-is = k .kept ∙ ap (keepCores last chosen) idle
 
-    choice : Choice (length before) chosen
+    choice : Choice (length cores) chosen
     choice = record { few = p .few; once = p .once; real = p .real }
 
     -- what the second pass asks: a free core for each of the others, who are tasks that have none yet
@@ -63,12 +49,12 @@ module _ {chosen last before idle : List ℕ} (p : Placing chosen last before) (
           room = rw kept-is (others-room choice last);
           named = named-part (λ i. not (placed kept i)) (p .named);
           once = λ i real. rw kept-is (omega (arith, kept-or-other choice last i real, p .once i));
-          small = omega (arith, p .small, ap length kept-is, keep-length last chosen (replicate (length before) 0), length-replicate {A = ℕ} (length before) 0);
-          kept = rw kept-is (kept-seated (length before) last chosen);
+          small = omega (arith, p .small, ap length kept-is, keep-length last chosen (replicate (length cores) 0), length-replicate {A = ℕ} (length cores) 0);
+          kept = rw kept-is (kept-seated (length cores) last chosen);
         }
 
     -- the two passes make the placing
-    pub both : {last′ cores : List ℕ} {moves : ℕ} → Filled (unplaced kept chosen) last kept last′ cores moves → Placed chosen last before last′ cores moves
+    pub both : {last′ cores′ : List ℕ} {moves : ℕ} → Filled (unplaced kept chosen) last kept last′ cores′ moves → Placed chosen last cores last′ cores′ moves
     unfolding place
     both f = record { placing = f .filled ∙ rw kept-is; seated = f .seated }
 

@@ -19,10 +19,14 @@ pub record Placing (chosen last cores : List ℕ) : Type 0 where
   pub lasts : (j : ℕ) → j < length last → getD last j 0 ≤ length cores
   pub small : length cores ≤ 32
 
+-- no core holds a task
+abbrev pub Idle : List ℕ → Type 0
+Idle cores = cores ≡ replicate (length cores) 0
+
 -- the cores are idle, and there is a place for each of the others
 pub record Keeping (chosen last cores others : List ℕ) : Type 0 where
   pub placing : Placing chosen last cores
-  pub idle : cores ≡ replicate (length cores) 0
+  pub idle : Idle cores
   pub room : length chosen ≤ length others
 
 -- the chosen tasks that no core holds

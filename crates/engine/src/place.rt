@@ -2,21 +2,13 @@
 // lowest free core. Cores are counted from 1; the entry of `cores` for core k is at k - 1, and 0 where the core is idle.
 ghost use mathlib.Core.Path.{_≡_};
 ghost use Prim.Native.Nat.{_≤_};
-ghost use lib.ListN.{length, replicate};
+ghost use lib.ListN.{length};
 ghost use mathlib.Core.Bool.{cond};
 ghost use Rattle.laws.specs.Lists.{at};
 ghost use Rattle.rules.specs.Slots.{free, seat};
-ghost use Rattle.engine.specs.Placing.{movesTo, Remembered, Placing, Keeping, Kept, Filling, Filled, Placed};
-
-fn clear(cores: &mut [u8])
-    ensures { λ _. ⌜ now (cores .exit) ≡ replicate (length (now (cores .entry))) 0 ⌝ }
-{
-    let mut k = 0;
-    while k < cores.len() {
-        cores[k] = 0;
-        k += 1;
-    }
-}
+ghost use Rattle.engine.specs.Placing.{movesTo, Remembered, Idle, Placing, Keeping, Kept, Filling, Filled, Placed};
+ghost use Rattle.engine.specs.Work.{Working, Worked};
+use crate::work::serve;
 
 // The core that task i last ran on, 0 where it has none.
 fn last_core(last: &[u8], i: u8) -> u8
@@ -44,16 +36,25 @@ fn take_core(cores: &mut [u8], k: u8, i: u8)
     cores[(k - 1) as usize] = i;
 }
 
-// Each chosen task whose last core is free takes it. The others are put into `others`, and their number is returned.
-fn keep(chosen: &[u8], last: &[u8], cores: &mut [u8], others: &mut [u8]) -> usize
-    requires { ⌜ Keeping (now chosen) (now last) (now cores) (now others) ⌝ }
-    ensures { λ n. ⌜ Kept (now (chosen .entry)) (now (last .entry)) (now (cores .entry)) (now (others .entry)) (now (cores .exit)) (now (others .exit)) n ⌝ }
+// Each chosen task whose last core is free takes it. The others are put into `others`, and their number is returned. The same walk
+// does the tasks' work: how many are chosen changes from slot to slot, and the end of a second walk would be guessed wrong again.
+fn keep(
+    chosen: &[u8],
+    last: &[u8],
+    cores: &mut [u8],
+    others: &mut [u8],
+    left: &mut [u32],
+    done: &mut [u32],
+) -> usize
+    requires { ⌜ Keeping (now chosen) (now last) (now cores) (now others) × Working (now chosen) (now left) (now done) ⌝ }
+    ensures { λ n. ⌜ Kept (now (chosen .entry)) (now (last .entry)) (now (cores .entry)) (now (others .entry)) (now (cores .exit)) (now (others .exit)) n × Worked (now (chosen .entry)) (now (left .entry)) (now (done .entry)) (now (left .exit)) (now (done .exit)) ⌝ }
 {
     let mut n = 0;
     let mut r = 0;
     while r < chosen.len() {
         let i = chosen[r];
         let k = last_core(last, i);
+        serve(i, left, done);
         if is_free(cores, k) {
             take_core(cores, k, i);
         } else {
@@ -107,15 +108,20 @@ fn fill(others: &[u8], last: &mut [u8], cores: &mut [u8]) -> u32
     moves
 }
 
-// `chosen` has the chosen tasks, highest priority first; `last` has each task's last core. What stood in `cores` before is lost.
-// The number of moves is returned.
-pub fn place(chosen: &[u8], last: &mut [u8], cores: &mut [u8]) -> u32
-    requires { ⌜ Placing (now chosen) (now last) (now cores) ⌝ }
-    ensures { λ r. ⌜ Placed (now (chosen .entry)) (now (last .entry)) (now (cores .entry)) (now (last .exit)) (now (cores .exit)) r ⌝ }
+// `chosen` has the chosen tasks, highest priority first; `last` has each task's last core; no core holds a task yet. Each chosen task
+// does its unit of work. The number of moves is returned.
+pub fn place(
+    chosen: &[u8],
+    last: &mut [u8],
+    cores: &mut [u8],
+    left: &mut [u32],
+    done: &mut [u32],
+) -> u32
+    requires { ⌜ Placing (now chosen) (now last) (now cores) × Idle (now cores) × Working (now chosen) (now left) (now done) ⌝ }
+    ensures { λ r. ⌜ Placed (now (chosen .entry)) (now (last .entry)) (now (cores .entry)) (now (last .exit)) (now (cores .exit)) r × Worked (now (chosen .entry)) (now (left .entry)) (now (done .entry)) (now (left .exit)) (now (done .exit)) ⌝ }
 {
     let mut others = [0u8; 32];
     let m = cores.len();
-    clear(cores);
-    let n = keep(chosen, last, cores, &mut others[..m]);
+    let n = keep(chosen, last, cores, &mut others[..m], left, done);
     fill(&others[..n], last, cores)
 }
