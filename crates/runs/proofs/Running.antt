@@ -7,7 +7,7 @@ use lib.Dec.{T}
 use lib.ListN.{length, take, drop, replicate, length-map, length-append, length-replicate}
 use lib.Seq.{length-take-le, take-at}
 use Rattle.laws.proofs.Each.{length-each}
-use Rattle.rules.specs.Limits.{tasksMax, coresMax}
+use Rattle.rules.specs.Limits.{tasksMax}
 use Rattle.rules.specs.Rows as Rules
 use Rattle.rules.specs.Tables as RuleTables
 use Rattle.rules.specs.Forms.{wellFormed}
@@ -87,9 +87,6 @@ module _ {s : State} {count : ℕ} {out : List ℕ} (o : Open s count out) (full
   unfolding view
   clock-is = refl
 
-  pub few-cores : s .table .m .0 ≤ coresMax
-  few-cores = rw cores-is at (kept .taken .cores-high)
-
   -- the state at the end
   abbrev end : States.State
   end = after count (view s)
@@ -129,69 +126,68 @@ module _ {s : State} {count : ℕ} {out : List ℕ} (o : Open s count out) (full
         }
 
     -- the arrays' fronts say the state
-    module _ {w : ℕ} (wide : w ≡ s .table .m .0) where
-      abbrev begun : States.State
-      begun =
-          stateOf w (s .clock .0) (take (tasks s) (p .c)) (take (tasks s) (p .t)) (take (tasks s) (p .ranks)) (take (tasks s) (p .left)) (take (tasks s) (p .last))
-          (take (tasks s) (p .done)) (take (tasks s) (p .dropped)) (s .moves) (s .misses)
+    abbrev begun : States.State
+    begun =
+        stateOf (s .table .m .0) (s .clock .0) (take (tasks s) (p .c)) (take (tasks s) (p .t)) (take (tasks s) (p .ranks)) (take (tasks s) (p .left)) (take (tasks s) (p .last))
+        (take (tasks s) (p .done)) (take (tasks s) (p .dropped)) (s .moves) (s .misses)
 
-      table-said : tableOf w (take (tasks s) (p .c)) (take (tasks s) (p .t)) ≡ view s .table
-      table-said =
-          rw (columns .c .front, columns .t .front)
-          (λ j. record { m = (wide ∙ sym cores-is) j; rows = rows-back (view s .table .rows) j })
+    table-said : tableOf (s .table .m .0) (take (tasks s) (p .c)) (take (tasks s) (p .t)) ≡ view s .table
+    table-said =
+        rw (columns .c .front, columns .t .front)
+        (λ j. record { m = sym cores-is j; rows = rows-back (view s .table .rows) j })
 
-      begun-is : begun ≡ view s
-      unfolding view
-      begun-is j =
+    begun-is : begun ≡ view s
+    unfolding view
+    begun-is j =
+        record {
+          table = table-said j;
+          ranks = columns .ranks .front j;
+          clock = s .clock .0;
+          left = columns .left .front j;
+          last = columns .last .front j;
+          done = columns .done .front j;
+          dropped = columns .dropped .front j;
+          moves = s .moves;
+          misses = s .misses;
+        }
+
+    -- what the slots ask
+    pub runnable : Runnable begun count (take (tasks s) (p .c)) (take (tasks s) (p .t)) (take (tasks s) (p .phase)) out
+    runnable =
+        record {
+          formed = subst (λ (x : States.State). T (wellFormed x)) (sym begun-is) (formed-of s (o .good));
+          in-time = o .in-time;
+          columns = sym (columns .t .count) ∙ columns .c .count;
+          phases = columns .phase .front ∙ ap (λ (x : RuleTables.Table). phasesIn x (view s .clock)) (sym table-said) ∙ rw clock-is;
+          room = o .room;
+        }
+
+    -- what they leave, put together
+    module _ {phase′ out′ left′ last′ done′ dropped′ : List ℕ} {moves misses : ℕ}
+        (ran : RanSlots begun count out (stateOf (s .table .m .0) (s .clock .0 + count) (take (tasks s) (p .c)) (take (tasks s) (p .t)) (take (tasks s) (p .ranks)) left′ last′ done′ dropped′ moves misses) phase′ out′) where
+      ended : stateOf (s .table .m .0) (s .clock .0 + count) (take (tasks s) (p .c)) (take (tasks s) (p .t)) (take (tasks s) (p .ranks)) left′ last′ done′ dropped′ moves misses ≡ end
+      ended = ran .state ∙ ap (after count) begun-is
+
+      joined-is : (left-rest last-rest done-rest dropped-rest : List ℕ)
+          → joined s (s .clock .0 + count) (left′ ++ left-rest) (last′ ++ last-rest) (done′ ++ done-rest) (dropped′ ++ dropped-rest) moves misses ≡ pack end
+      unfolding joined pack
+      joined-is left-rest last-rest done-rest dropped-rest j =
           record {
-            table = table-said j;
-            ranks = columns .ranks .front j;
-            clock = s .clock .0;
-            left = columns .left .front j;
-            last = columns .last .front j;
-            done = columns .done .front j;
-            dropped = columns .dropped .front j;
-            moves = s .moves;
-            misses = s .misses;
+            table = table-end j;
+            ranks = ranks-end j;
+            clock = record { 0 = ended j .clock };
+            left = packed units (front left-rest (end .left) (ap (λ (x : States.State). x .left) ended) (kept-end .left-length) j);
+            last = packed coreNumber (front last-rest (end .last) (ap (λ (x : States.State). x .last) ended) (kept-end .last-length) j);
+            done = packed units (front done-rest (end .done) (ap (λ (x : States.State). x .done) ended) (kept-end .done-length) j);
+            dropped = packed units (front dropped-rest (end .dropped) (ap (λ (x : States.State). x .dropped) ended) (kept-end .dropped-length) j);
+            moves = ended j .moves;
+            misses = ended j .misses;
           }
 
-      -- what the slots ask
-      pub runnable : Runnable begun count (take (tasks s) (p .c)) (take (tasks s) (p .t)) (take (tasks s) (p .phase)) out
-      runnable =
-          record {
-            formed = subst (λ (x : States.State). T (wellFormed x)) (sym begun-is) (formed-of s (o .good));
-            in-time = o .in-time;
-            columns = sym (columns .t .count) ∙ columns .c .count;
-            phases = columns .phase .front ∙ ap (λ (x : RuleTables.Table). phasesIn x (view s .clock)) (sym table-said) ∙ rw clock-is;
-            room = rw wide (o .room);
-          }
+      lines-are : out′ ≡ slotLines count (view s) ++ drop (count * frameLength (s .table .m .0)) out
+      lines-are = ran .lines ∙ rw begun-is
 
-      -- what they leave, put together
-      module _ {phase′ cores′ out′ left′ last′ done′ dropped′ cores : List ℕ} {moves misses : ℕ}
-          (ran : RanSlots begun count cores out (stateOf w (s .clock .0 + count) (take (tasks s) (p .c)) (take (tasks s) (p .t)) (take (tasks s) (p .ranks)) left′ last′ done′ dropped′ moves misses) phase′ cores′ out′) where
-        ended : stateOf w (s .clock .0 + count) (take (tasks s) (p .c)) (take (tasks s) (p .t)) (take (tasks s) (p .ranks)) left′ last′ done′ dropped′ moves misses ≡ end
-        ended = ran .state ∙ ap (after count) begun-is
-
-        joined-is : (left-rest last-rest done-rest dropped-rest : List ℕ)
-            → joined s (s .clock .0 + count) (left′ ++ left-rest) (last′ ++ last-rest) (done′ ++ done-rest) (dropped′ ++ dropped-rest) moves misses ≡ pack end
-        unfolding joined pack
-        joined-is left-rest last-rest done-rest dropped-rest j =
-            record {
-              table = table-end j;
-              ranks = ranks-end j;
-              clock = record { 0 = ended j .clock };
-              left = packed units (front left-rest (end .left) (ap (λ (x : States.State). x .left) ended) (kept-end .left-length) j);
-              last = packed coreNumber (front last-rest (end .last) (ap (λ (x : States.State). x .last) ended) (kept-end .last-length) j);
-              done = packed units (front done-rest (end .done) (ap (λ (x : States.State). x .done) ended) (kept-end .done-length) j);
-              dropped = packed units (front dropped-rest (end .dropped) (ap (λ (x : States.State). x .dropped) ended) (kept-end .dropped-length) j);
-              moves = ended j .moves;
-              misses = ended j .misses;
-            }
-
-        lines-are : out′ ≡ slotLines count (view s) ++ drop (count * frameLength (s .table .m .0)) out
-        lines-are = ran .lines ∙ rw (begun-is, wide)
-
-        pub run-formed : {r : State} (left-rest last-rest done-rest dropped-rest : List ℕ)
-            → r ≡ joined s (s .clock .0 + count) (left′ ++ left-rest) (last′ ++ last-rest) (done′ ++ done-rest) (dropped′ ++ dropped-rest) moves misses
-            → RunFormed s count out r out′
-        run-formed a b c d e′ = record { state = e′ ∙ joined-is a b c d; lines = lines-are }
+      pub run-formed : {r : State} (left-rest last-rest done-rest dropped-rest : List ℕ)
+          → r ≡ joined s (s .clock .0 + count) (left′ ++ left-rest) (last′ ++ last-rest) (done′ ++ done-rest) (dropped′ ++ dropped-rest) moves misses
+          → RunFormed s count out r out′
+      run-formed a b c d e′ = record { state = e′ ∙ joined-is a b c d; lines = lines-are }

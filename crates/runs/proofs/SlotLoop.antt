@@ -6,11 +6,12 @@ use native.Mathlib.Nat.{suc-mul, mul-le-mul-right}
 use native.Mathlib.Numerals.{add-one}
 use native.Mathlib.Omega.{arith}
 use borrow.Rule.Slice.PartMut.{putMid}
-use lib.ListN.{length, take, drop, replicate, length-map, length-take, length-drop}
-use lib.Seq.{take-nil, length-take-le}
+use lib.ListN.{length, take, drop, replicate, length-append, length-map, length-take, length-drop}
+use lib.Seq.{take-nil, take-at, length-take-le}
 use Rattle.laws.specs.Lists.{at}
 use Rattle.rules.specs.Limits.{coresMax}
 use Rattle.laws.proofs.Each.{length-each}
+use Rattle.laws.proofs.Positions.{at-zeros}
 use Rattle.rules.specs.Tables.{Table, size}
 use Rattle.rules.specs.States.{State}
 use Rattle.rules.specs.Slots.{Shown, release, effect, slot}
@@ -22,10 +23,11 @@ use Rattle.slot_laws.proofs.Books.{slot-kept, after-kept}
 use Rattle.slot_laws.proofs.Lengths.{length-slotLine, length-slotLines, slot-width}
 use Rattle.reading_laws.proofs.Lays.{length-lay, lay-front, laid-on}
 use Rattle.frames.specs.Slots.{shownAs}
+use Rattle.engine.specs.Placing.{Idle}
 use Rattle.engine.specs.Step.{Stepped, stepped, releasedOn, stepOn, Ready, unitsOf, periodsOf, phasesIn, stepFrom, listsOf}
 use Rattle.engine.proofs.Steps.{release-size, ready, released-on, withheld-on, step-slot}
 use Rattle.verdicts.specs.Columns.{rowsOf, tableOf}
-use Rattle.runs.specs.Slots.{stateOf, frameLength, Runnable, coresAfter, RanSlots}
+use Rattle.runs.specs.Slots.{stateOf, frameLength, Runnable, RanSlots}
 
 -- ---- the columns of a table
 
@@ -46,12 +48,14 @@ periods-of m (c ∷ cs) (t ∷ ts) e = ap (λ (l : List ℕ). t ∷ l) (periods-
 abbrev zeros : List ℕ
 zeros = replicate 64 0
 
-at-zeros : (m n i : ℕ) → at (take n (replicate m 0)) i ≡ 0
-at-zeros m n zero = refl
-at-zeros zero n (suc i) = rw (take-nil n)
-at-zeros (suc m) zero (suc i) = refl
-at-zeros (suc m) (suc n) (suc zero) = refl
-at-zeros (suc m) (suc n) (suc (suc i)) = at-zeros m n (suc i)
+-- the front of zeros are zeros
+pub zeros-front : (k n : ℕ) → Idle (take n (replicate k 0))
+zeros-front zero n = rw (take-nil n)
+zeros-front (suc k) zero = refl
+zeros-front (suc k) (suc n) = ap (λ (l : List ℕ). 0 ∷ l) (zeros-front k n)
+
+none-left : (n i : ℕ) → at (take n zeros) i ≡ 0
+none-left n i = ap (λ (l : List ℕ). at l i) (zeros-front 64 n) ∙ at-zeros (length (take n zeros)) i
 
 -- ---- the lines of one slot more
 
@@ -64,13 +68,11 @@ lines-suc (suc k) st =
 
 -- ---- after k slots of a run from a state
 
-pub record Run (st : State) (count : ℕ) (c t cores₀ out₀ phase left last done dropped cores out : List ℕ) (moves misses place k : ℕ) : Type 0 where
+pub record Run (st : State) (count : ℕ) (c t out₀ phase left last done dropped out : List ℕ) (moves misses place k : ℕ) : Type 0 where
   pub within : k ≤ count
   pub state : stateOf (st .table .m) (st .clock + k) c t (st .ranks) (after k st .left) last done dropped moves misses ≡ after k st
   pub lefts : left ≡ release (st .table) (st .clock + k) (after k st .left)
   pub phases : phase ≡ phasesIn (st .table) (st .clock + k)
-  pub placing : cores ≡ coresAfter k st cores₀
-  pub wide : length cores ≡ st .table .m
   pub laid : out ≡ lay out₀ 0 (slotLines k st)
   pub at-place : place ≡ k * frameLength (st .table .m)
 
@@ -103,7 +105,7 @@ module _ {m clock count : ℕ} {c t ranks phase left last done dropped out : Lis
   pub told : before phase left₁ ≡ left
   told =
       rw (e, released-now r, r .phases)
-      (withheld-on (formed-kept _ (r .formed)) (take (length (release (tableOf m c t) clock left)) zeros) (at-zeros 64 (length (release (tableOf m c t) clock left))))
+      (withheld-on (formed-kept _ (r .formed)) (take (length (release (tableOf m c t) clock left)) zeros) (none-left (length (release (tableOf m c t) clock left))))
 
   pub still : Runnable (stateOf m clock c t ranks (before phase left₁) last done dropped moves misses) count c t phase out
   still = rw told r
@@ -115,8 +117,8 @@ module _ {st : State} {count : ℕ} {c t phase₀ out₀ : List ℕ} (r : Runnab
   pub few-cores : st .table .m ≤ coresMax
   few-cores = kept₀ .taken .cores-high
 
-  module _ {cores₀ phase left last done dropped cores out : List ℕ} {moves misses place k : ℕ}
-      (g : Run st count c t cores₀ out₀ phase left last done dropped cores out moves misses place k) where
+  module _ {phase left last done dropped out : List ℕ} {moves misses place k : ℕ}
+      (g : Run st count c t out₀ phase left last done dropped out moves misses place k) where
     abbrev m : ℕ
     m = st .table .m
 
@@ -148,20 +150,20 @@ module _ {st : State} {count : ℕ} {c t phase₀ out₀ : List ℕ} (r : Runnab
         omega (arith, r .room, g .at-place, suc-mul k (frameLength m), mul-le-mul-right {m = suc k} {n = count} (frameLength m) more, out-size)
 
     -- what the next slot asks
-    pub slot-ready : Ready (length cores) c t (st .ranks) phase left last done dropped
-    slot-ready =
-        rw (g .wide, phases-now, lefts-now) (rw (units-of m c t (r .columns), periods-of m c t (r .columns)) at (ready kept (omega (arith, r .in-time))))
+    pub slot-ready : {w : ℕ} → w ≡ m → Ready w c t (st .ranks) phase left last done dropped
+    slot-ready wide =
+        rw (wide, phases-now, lefts-now) (rw (units-of m c t (r .columns), periods-of m c t (r .columns)) at (ready kept (omega (arith, r .in-time))))
 
     -- what it leaves
-    slot-left : stepOn (length cores) c t (st .ranks) phase left last done dropped ≡ listsOf (slot current)
+    slot-left : stepOn m c t (st .ranks) phase left last done dropped ≡ listsOf (slot current)
     unfolding stepFrom
     slot-left =
-        rw (g .wide, phases-now, lefts-now) (rw (units-of m c t (r .columns), periods-of m c t (r .columns)) at (step-slot kept))
+        rw (phases-now, lefts-now) (rw (units-of m c t (r .columns), periods-of m c t (r .columns)) at (step-slot kept))
 
-    module _ (more : k < count) {phase′ left′ last′ done′ dropped′ cores′ : List ℕ} {moved missed : ℕ}
-        (e : stepped phase′ left′ last′ done′ dropped′ cores′ moved missed ≡ stepOn (length cores) c t (st .ranks) phase left last done dropped) where
+    module _ (more : k < count) {w : ℕ} (wide : w ≡ m) {phase′ left′ last′ done′ dropped′ cores′ : List ℕ} {moved missed : ℕ}
+        (e : stepped phase′ left′ last′ done′ dropped′ cores′ moved missed ≡ stepOn w c t (st .ranks) phase left last done dropped) where
       lists : stepped phase′ left′ last′ done′ dropped′ cores′ moved missed ≡ listsOf (slot current)
-      lists = e ∙ slot-left
+      lists = e ∙ rw wide slot-left
 
       next-state : stateOf m (st .clock + (k + 1)) c t (st .ranks) (slot current .next .left) last′ done′ dropped′ (moves + moved) (misses + missed) ≡ slot current .next
       unfolding slot effect listsOf
@@ -204,16 +206,19 @@ module _ {st : State} {count : ℕ} {c t phase₀ out₀ : List ℕ} (r : Runnab
       shown-next : shownAs (st .clock + k) cores′ moved missed ≡ slot (after k st) .shown
       shown-next = shown-now ∙ ap (λ (s : State). slot s .shown) (g .state)
 
-      cores-next : cores′ ≡ coresAfter (k + 1) st cores₀
-      unfolding coresAfter
-      cores-next = ap (λ (x : Shown). x .cores) shown-next ∙ rw (add-one k)
-
       phases-next : phase′ ≡ phasesIn (st .table) (st .clock + (k + 1))
       unfolding slot effect listsOf
       phases-next = ap (λ (x : Stepped). x .phase) lists ∙ rw (table-same, ← add-one (st .clock + k)) (ap (phasesIn (st .table)) (omega arith))
 
       cores-wide : length cores′ ≡ m
       cores-wide = ap (λ (x : Shown). length (x .cores)) shown-now ∙ slot-width current
+
+      -- the placing stands in the front of the array
+      pub front-placing : (rest : List ℕ) → take m (cores′ ++ rest) ≡ cores′
+      front-placing rest = take-at cores′ rest m cores-wide
+
+      pub front-long : (rest : List ℕ) → m ≤ length (cores′ ++ rest)
+      front-long rest = omega (arith, length-append cores′ rest, cores-wide)
 
       kept-next : Kept (stateOf m (st .clock + (k + 1)) c t (st .ranks) (slot current .next .left) last′ done′ dropped′ (moves + moved) (misses + missed))
       kept-next = subst Kept (sym next-state) (slot-kept kept)
@@ -232,7 +237,7 @@ module _ {st : State} {count : ℕ} {c t phase₀ out₀ : List ℕ} (r : Runnab
 
       pub turn : {tail : List ℕ} {length-of : ℕ} → length-of ≡ frameLength m
           → tail ≡ slotLine (shownAs (st .clock + k) cores′ moved missed) ++ drop (frameLength (length cores′)) (take (length out - place) (drop place out))
-          → Run st count c t cores₀ out₀ phase′ left′ last′ done′ dropped′ cores′ (putMid place (length out - place) out tail) (moves + moved) (misses + missed) (place + length-of) (k + 1)
+          → Run st count c t out₀ phase′ left′ last′ done′ dropped′ (putMid place (length out - place) out tail) (moves + moved) (misses + missed) (place + length-of) (k + 1)
       turn {tail} el w =
           let line : List ℕ = slotLine (shownAs (st .clock + k) cores′ moved missed) in
           record {
@@ -240,8 +245,6 @@ module _ {st : State} {count : ℕ} {c t phase₀ out₀ : List ℕ} (r : Runnab
             state = state-next;
             lefts = lefts-next;
             phases = phases-next;
-            placing = cores-next;
-            wide = cores-wide;
             laid =
                 laid-on out₀ 0 (slotLines k st) out (g .laid) place (omega (arith, lines-length, g .at-place)) (frameLength (length cores′)) line tail
                 (length-slotLine (shownAs (st .clock + k) cores′ moved missed))
@@ -278,7 +281,7 @@ module _ {st : State} {count : ℕ} {c t phase₀ out₀ : List ℕ} (r : Runnab
 
     -- a release of no units after the last slot gives the state's own left work
     left-back : (n : ℕ) {left″ : List ℕ} → left″ ≡ releasedOn (take n zeros) phase left → left″ ≡ after k st .left
-    left-back n e = e ∙ rw (phases-now, lefts-now) (withheld-on kept (take n zeros) (at-zeros 64 n))
+    left-back n e = e ∙ rw (phases-now, lefts-now) (withheld-on kept (take n zeros) (none-left n))
 
     pub left-end : (n : ℕ) {left″ : List ℕ} → left″ ≡ releasedOn (take n zeros) phase left → length left″ ≡ length (st .left)
     unfolding releasedOn
@@ -286,30 +289,26 @@ module _ {st : State} {count : ℕ} {c t phase₀ out₀ : List ℕ} (r : Runnab
 
     -- the last slot was run
     pub ended : count ≤ k → (n : ℕ) {left″ : List ℕ} → left″ ≡ releasedOn (take n zeros) phase left
-        → RanSlots st count cores₀ out₀ (stateOf m (st .clock + count) c t (st .ranks) left″ last done dropped moves misses) phase cores out
+        → RanSlots st count out₀ (stateOf m (st .clock + count) c t (st .ranks) left″ last done dropped moves misses) phase out
     ended h n e =
         let all : k ≡ count = omega (arith, g .within) in
         record {
           state = rw all at (ap (λ (l : List ℕ). stateOf m (st .clock + k) c t (st .ranks) l last done dropped moves misses) (left-back n e) ∙ g .state);
           phases = rw all at (g .phases);
-          placing = rw all at (g .placing);
           lines = g .laid ∙ lay-front out₀ (slotLines k st) ∙ rw (lines-length, all);
         }
 
 -- no slot was run yet
-pub start : {m clock count : ℕ} {c t ranks phase left last done dropped : List ℕ} (cores out : List ℕ) {moves misses : ℕ} → length cores ≡ m
-    → Runnable (stateOf m clock c t ranks left last done dropped moves misses) count c t phase out → {left₁ : List ℕ} → left₁ ≡ releasedOn c phase left
-    → Run (stateOf m clock c t ranks left last done dropped moves misses) count c t cores out phase left₁ last done dropped cores out moves misses 0 0
-unfolding after coresAfter slotLines shows lay
-start {m} {clock} {c = c} {t} {ranks} {left = left} {last} {done} {dropped} cores out {moves} {misses} wide r e =
+pub start : {m clock count : ℕ} {c t ranks phase left last done dropped : List ℕ} (out : List ℕ) {moves misses : ℕ} → Runnable (stateOf m clock c t ranks left last done dropped moves misses) count c t phase out → {left₁ : List ℕ} → left₁ ≡ releasedOn c phase left
+    → Run (stateOf m clock c t ranks left last done dropped moves misses) count c t out phase left₁ last done dropped out moves misses 0 0
+unfolding after slotLines shows lay
+start {m} {clock} {c = c} {t} {ranks} {left = left} {last} {done} {dropped} out {moves} {misses} r e =
     let now : clock + 0 ≡ clock = omega arith in
     record {
       within = zero-le;
       state = ap (λ (s : ℕ). stateOf m s c t ranks left last done dropped moves misses) now;
       lefts = e ∙ released-now r ∙ ap (λ (s : ℕ). release (tableOf m c t) s left) (sym now);
       phases = r .phases ∙ ap (phasesIn (tableOf m c t)) (sym now);
-      placing = refl;
-      wide = wide;
       laid = refl;
       at-place = omega arith;
     }

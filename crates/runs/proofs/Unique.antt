@@ -3,7 +3,6 @@ use Prim.Native.Nat.{ℕ}
 use mathlib.Core.List.{List}
 use denote.Ref.{now}
 use Rattle.laws.proofs.Contracts.{One, both}
-use Rattle.engine.specs.Step.{Stepped, stepped}
 use Rattle.runs.specs.Answers.{runEnd}
 use Rattle.runs.proofs.parts.apart.Reads as apart
 use Rattle.runs.proofs.parts.together.Reads as together
@@ -22,12 +21,11 @@ together-once κs a x y s t p q = both p q
 pub frame-length-once : One frame-length.Post (λ κs r s. r)
 frame-length-once κs a x y s t p q = both p q
 
--- the lists, the placing and the totals, and the buffer
-pub run-slots-once : One {S = Stepped × List ℕ} run-slots.Post (λ κs r s. (stepped (now (s .1 .1 .1 .1 .1 .1 .0)) (now (s .1 .1 .1 .1 .1 .1 .1 .0)) (now (s .1 .1 .1 .1 .1 .1 .1 .1 .0)) (now (s .1 .1 .1 .1 .1 .1 .1 .1 .1 .0)) (now (s .1 .1 .1 .1 .1 .1 .1 .1 .1 .1 .0)) (now (s .1 .1 .1 .1 .1 .1 .1 .1 .1 .1 .1 .0)) (r .moves) (r .misses), now (s .1 .1 .1 .1 .1 .1 .1 .1 .1 .1 .1 .1 .0)))
+-- the lists, the totals and the buffer
+pub run-slots-once : One {S = List ℕ × List ℕ × List ℕ × List ℕ × List ℕ × ℕ × ℕ × List ℕ} run-slots.Post (λ κs r s. (now (s .1 .1 .1 .1 .1 .1 .1 .0), now (s .1 .1 .1 .1 .1 .1 .1 .1 .0), now (s .1 .1 .1 .1 .1 .1 .1 .1 .1 .0), now (s .1 .1 .1 .1 .1 .1 .1 .1 .1 .1 .0), now (s .1 .1 .1 .1 .1 .1 .1 .1 .1 .1 .1 .0), r .moves, r .misses, now (s .1 .1 .1 .1 .1 .1 .1 .1 .1 .1 .1 .1 .0)))
 run-slots-once κs a x y s t p q =
     let state = both (p .state) (q .state) in
-    λ j.
-    (stepped (both (p .phases) (q .phases) j) (state j .left) (state j .last) (state j .done) (state j .dropped) (both (p .placing) (q .placing) j) (state j .moves) (state j .misses), both (p .lines) (q .lines) j)
+    λ j. (both (p .phases) (q .phases) j, state j .left, state j .last, state j .done, state j .dropped, state j .moves, state j .misses, both (p .lines) (q .lines) j)
 
 pub length-of-once : One length-of.Post (λ κs r s. r)
 length-of-once κs a x y s t p q = both p q

@@ -1,5 +1,5 @@
 -- A run on lists of plain numbers, one entry a task: the state that they say, and what a run asks and leaves.
-use Prim.Native.Nat.{ℕ, zero, suc, _+_, _*_, _≤_}
+use Prim.Native.Nat.{ℕ, _+_, _*_, _≤_}
 use mathlib.Core.Path.{_≡_}
 use mathlib.Core.List.{List, _++_}
 use lib.Dec.{T}
@@ -7,7 +7,6 @@ use lib.ListN.{length, drop}
 use Rattle.rules.specs.Limits.{clockMax}
 use Rattle.rules.specs.States.{State}
 use Rattle.rules.specs.Forms.{wellFormed}
-use Rattle.rules.specs.Slots.{slot}
 use Rattle.rules.specs.Runs.{after, slotLines}
 use Rattle.verdicts.specs.Columns.{tableOf}
 use Rattle.engine.specs.Step.{phasesIn}
@@ -39,14 +38,8 @@ pub record Runnable (st : State) (count : ℕ) (c t phase out : List ℕ) : Type
   pub phases : phase ≡ phasesIn (st .table) (st .clock)
   pub room : count * frameLength (st .table .m) ≤ length out
 
--- the placing of the last of k slots; where there is none, what stood there
-unfoldable pub coresAfter : ℕ → State → List ℕ → List ℕ
-coresAfter zero st cores = cores
-coresAfter (suc k) st cores = slot (after k st) .shown .cores
-
 -- what a run of a count of slots leaves
-pub record RanSlots (st : State) (count : ℕ) (cores out : List ℕ) (st′ : State) (phase′ cores′ out′ : List ℕ) : Type 0 where
+pub record RanSlots (st : State) (count : ℕ) (out : List ℕ) (st′ : State) (phase′ out′ : List ℕ) : Type 0 where
   pub state : st′ ≡ after count st
   pub phases : phase′ ≡ phasesIn (st .table) (st .clock + count)
-  pub placing : cores′ ≡ coresAfter count st cores
   pub lines : out′ ≡ slotLines count st ++ drop (count * frameLength (st .table .m)) out

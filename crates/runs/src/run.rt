@@ -72,7 +72,6 @@ fn run_formed(s: State, count: u32, out: &mut [u8]) -> State
     let mut last = parts.last;
     let mut done = parts.done;
     let mut dropped = parts.dropped;
-    let mut cores = [0u8; 32];
     let before = Totals {
         moves: s.moves,
         misses: s.misses,
@@ -81,6 +80,7 @@ fn run_formed(s: State, count: u32, out: &mut [u8]) -> State
         clock,
         count,
         before,
+        m,
         &c[..n],
         &t[..n],
         &ranks[..n],
@@ -89,7 +89,6 @@ fn run_formed(s: State, count: u32, out: &mut [u8]) -> State
         &mut last[..n],
         &mut done[..n],
         &mut dropped[..n],
-        &mut cores[..m],
         out,
     );
     together(s, clock + count, left, last, done, dropped, totals)

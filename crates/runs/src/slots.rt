@@ -1,7 +1,6 @@
 // The slots of a run, one after the other, on lent slices of plain numbers: no copy of the state and no division in the loop.
 ghost use mathlib.Core.Path.{_≡_};
 ghost use Prim.Native.Nat.{_+_, _≤_};
-ghost use lib.ListN.{length};
 ghost use Rattle.rules.specs.Limits.{coresMax};
 ghost use Rattle.runs.specs.Slots.{stateOf, frameLength, Runnable, RanSlots};
 use engine::release::release;
@@ -23,12 +22,13 @@ pub fn frame_length(m: usize) -> usize
 }
 
 // A slice that speaks of tasks has one entry a task, in table order: `c` and `t` each task's C and T, `phase` the slots since its
-// last release. `ranks` has the tasks in priority order. The frames go to the front of `out`; `cores` has one entry a core, and
-// what stood there before is lost. The totals at the end are returned.
+// last release. `ranks` has the tasks in priority order. There are m cores. The frames go to the front of `out`. The totals at the
+// end are returned.
 pub fn run_slots(
     clock: u32,
     count: u32,
     totals: Totals,
+    m: usize,
     c: &[u32],
     t: &[u32],
     ranks: &[u8],
@@ -37,13 +37,12 @@ pub fn run_slots(
     last: &mut [u8],
     done: &mut [u32],
     dropped: &mut [u32],
-    cores: &mut [u8],
     out: &mut [u8],
 ) -> Totals
-    requires { ⌜ Runnable (stateOf (length (now cores)) clock (now c) (now t) (now ranks) (now left) (now last) (now done) (now dropped) (totals .moves) (totals .misses)) count (now c) (now t) (now phase) (now out) ⌝ }
-    ensures { λ r. ⌜ RanSlots (stateOf (length (now (cores .entry))) clock (now (c .entry)) (now (t .entry)) (now (ranks .entry)) (now (left .entry)) (now (last .entry)) (now (done .entry)) (now (dropped .entry)) (totals .moves) (totals .misses)) count (now (cores .entry)) (now (out .entry)) (stateOf (length (now (cores .entry))) (clock + count) (now (c .entry)) (now (t .entry)) (now (ranks .entry)) (now (left .exit)) (now (last .exit)) (now (done .exit)) (now (dropped .exit)) (r .moves) (r .misses)) (now (phase .exit)) (now (cores .exit)) (now (out .exit)) ⌝ }
+    requires { ⌜ Runnable (stateOf m clock (now c) (now t) (now ranks) (now left) (now last) (now done) (now dropped) (totals .moves) (totals .misses)) count (now c) (now t) (now phase) (now out) ⌝ }
+    ensures { λ r. ⌜ RanSlots (stateOf m clock (now (c .entry)) (now (t .entry)) (now (ranks .entry)) (now (left .entry)) (now (last .entry)) (now (done .entry)) (now (dropped .entry)) (totals .moves) (totals .misses)) count (now (out .entry)) (stateOf m (clock + count) (now (c .entry)) (now (t .entry)) (now (ranks .entry)) (now (left .exit)) (now (last .exit)) (now (done .exit)) (now (dropped .exit)) (r .moves) (r .misses)) (now (phase .exit)) (now (out .exit)) ⌝ }
 {
-    let width = frame_length(cores.len());
+    let width = frame_length(m);
     let n = left.len();
     let none = [0u32; 64];
     let mut moves = totals.moves;
@@ -52,11 +51,22 @@ pub fn run_slots(
     let mut k = 0;
     release(left, phase, c);
     while k < count {
-        let shown = slot(c, t, ranks, phase, left, last, done, dropped, cores);
+        let mut cores = [0u8; 32];
+        let shown = slot(
+            c,
+            t,
+            ranks,
+            phase,
+            left,
+            last,
+            done,
+            dropped,
+            &mut cores[..m],
+        );
         write_slot(
             &mut out[place..],
             clock + k,
-            cores,
+            &cores[..m],
             shown.moves,
             shown.misses,
         );

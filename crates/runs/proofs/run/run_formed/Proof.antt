@@ -1,11 +1,9 @@
 -- `runs::run::run_formed` meets its contract: the state is taken apart, its slots are run on the fronts of the arrays, and it is put together.
-use mathlib.Core.Path.{sym}
-use lib.Seq.{length-take-le}
 use Rattle.machine.specs.Full.{Full}
 use Rattle.machine.specs.Views.{tasks, view}
 use Rattle.machine.proofs.Arrays.{state-full}
 use Rattle.runs.proofs.Parting.{few-tasks}
-use Rattle.runs.proofs.Running.{Columns, few-cores, columns, runnable, run-formed}
+use Rattle.runs.proofs.Running.{Columns, columns, runnable, run-formed}
 use native.Mathlib.Omega.{arith}
 use borrow.Author.Needs.{needs}
 use Rattle.runs.proofs.run.run_formed.Statement.{statement}
@@ -78,29 +76,19 @@ array-borrow-prefix-dropped c = taken (c .before .before .before .before .before
 slice-aggregate-run-slots-8 : tie.Need-slice-aggregate-run-slots-8
 slice-aggregate-run-slots-8 c = taken (c .before .before .before .before .before .before .before .before .before .before .before .before .before .before .before .before) .dropped .count
 
-array-borrow-prefix-cores : tie.Need-array-borrow-prefix-cores
-array-borrow-prefix-cores c =
-    let a = c .before .before .before .before .before .before .before .before .before .before .before .before .before .before .before .before in
-    few-cores (entry a .pre) (full a)
-
-slice-aggregate-run-slots-9 : tie.Need-slice-aggregate-run-slots-9
-slice-aggregate-run-slots-9 c =
-    let a = c .before .before .before .before .before .before .before .before .before .before .before .before .before .before .before .before .before in
-    sym (length-take-le _ _ (few-cores (entry a .pre) (full a)))
-
 run-slots-requires : tie.Need-run-slots-requires
 run-slots-requires c κs =
-    let a = c .before .before .before .before .before .before .before .before .before .before .before .before .before .before .before .before .before .before in
-    runnable (entry a .pre) (full a) (a .apart .ensures) (length-take-le _ _ (few-cores (entry a .pre) (full a)))
+    let a = c .before .before .before .before .before .before .before .before .before .before .before .before .before .before .before .before .before in
+    runnable (entry a .pre) (full a) (a .apart .ensures)
 
 add-together : tie.Need-add-together
 add-together c =
-    let a = c .before .before .before .before .before .before .before .before .before .before .before .before .before .before .before .before .before .before .before .before .before .before .before .before .before .before .before in
+    let a = c .before .before .before .before .before .before .before .before .before .before .before .before .before .before .before .before .before .before .before .before .before .before .before .before .before in
     omega (arith, entry a .pre .in-time)
 
 together-requires : tie.Need-together-requires
 together-requires c κs =
-    let a = c .before .before .before .before .before .before .before .before .before .before .before .before .before .before .before .before .before .before .before .before .before .before .before .before .before .before .before in
+    let a = c .before .before .before .before .before .before .before .before .before .before .before .before .before .before .before .before .before .before .before .before .before .before .before .before .before in
     few-tasks _ (entry a .pre .good)
 
 same-length : tie.Need-same-length
@@ -108,8 +96,8 @@ same-length c = search needs
 
 returns : tie.Need-returns
 returns c =
-    let a = c .before .before .before .before .before .before .before .before .before .before .before .before .before .before .before .before .before .before .before .before .before .before .before .before .before .before .before .before in
-    run-formed (entry a .pre) (full a) (a .apart .ensures) (length-take-le _ _ (few-cores (entry a .pre) (full a))) (c .before .before .before .before .before .before .before .before .before .run-slots .ensures) _ _ _ _ (c .together .ensures)
+    let a = c .before .before .before .before .before .before .before .before .before .before .before .before .before .before .before .before .before .before .before .before .before .before .before .before .before .before in
+    run-formed (entry a .pre) (full a) (a .apart .ensures) (c .before .before .before .before .before .before .before .before .run-slots .ensures) _ _ _ _ (c .together .ensures)
 
 pub run-formed-spec : {M : Type 1} → statement M
 run-formed-spec =
@@ -134,8 +122,6 @@ run-formed-spec =
     slice-aggregate-run-slots-7
     array-borrow-prefix-dropped
     slice-aggregate-run-slots-8
-    array-borrow-prefix-cores
-    slice-aggregate-run-slots-9
     run-slots-requires
     add-together
     together-requires

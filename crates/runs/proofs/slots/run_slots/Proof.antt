@@ -1,25 +1,25 @@
 -- `runs::slots::run_slots` meets its contract: a loop over the slots, whose turn is one slot and its frame.
 use Prim.Native.Nat.{_-_}
-use mathlib.Core.Path.{refl, sym, ap, _∙_}
+use mathlib.Core.Path.{sym, ap, _∙_}
 use lib.ListN.{length}
 use lib.Seq.{length-take-le}
 use Rattle.runs.specs.Slots.{stateOf}
-use Rattle.runs.proofs.SlotLoop.{Run, few-tasks, lengths, before, told, still, few-cores, start, place-room, slot-ready, frame-room, moves-fit, misses-fit, turn, last-lengths, left-end, ended, last-size, done-size, dropped-size, phase-size, out-size}
+use Rattle.runs.proofs.SlotLoop.{zeros-front, Run, few-tasks, lengths, before, told, still, few-cores, start, place-room, slot-ready, front-placing, front-long, frame-room, moves-fit, misses-fit, turn, last-lengths, left-end, ended, last-size, done-size, dropped-size, phase-size, out-size}
 use native.Mathlib.Omega.{arith}
 use Rattle.runs.proofs.slots.run_slots.Statement.{statement}
 use Rattle.runs.proofs.slots.run_slots.Tie as tie
 
 abbrev Inv-loop : tie.InvT-loop
-Inv-loop clock count c t ranks phase₀ left₀ last₀ done₀ dropped₀ cores₀ out₀ width n none moves₀ misses₀ place₀ k₀ phase left last done dropped cores out moves misses place k =
-    Run (stateOf (length cores₀) clock c t ranks (before phase₀ left₀) last₀ done₀ dropped₀ moves₀ misses₀) count c t cores₀ out₀ phase left last done dropped cores out moves misses place k
+Inv-loop clock count m c t ranks phase₀ left₀ last₀ done₀ dropped₀ out₀ width n none moves₀ misses₀ place₀ k₀ phase left last done dropped out moves misses place k =
+    Run (stateOf m clock c t ranks (before phase₀ left₀) last₀ done₀ dropped₀ moves₀ misses₀) count c t out₀ phase left last done dropped out moves misses place k
 
 abbrev μ-loop : tie.MeasureT-loop
-μ-loop clock count c t ranks phase₀ left₀ last₀ done₀ dropped₀ cores₀ out₀ width n none moves₀ misses₀ place₀ k₀ phase left last done dropped cores out moves misses place k =
+μ-loop clock count m c t ranks phase₀ left₀ last₀ done₀ dropped₀ out₀ width n none moves₀ misses₀ place₀ k₀ phase left last done dropped out moves misses place k =
     count - k
 
 -- the places before the loop and at its head
 abbrev begun : tie.At-loop Inv-loop μ-loop → tie.Start Inv-loop μ-loop
-begun c = c .before .before .before .before .before .before .before .before .before .before .before .before .before .before .before .before .before
+begun c = c .before .before .before .before .before .before .before .before .before .before .before .before .before .before .before .before
 
 abbrev framed : tie.At-loop Inv-loop μ-loop → tie.After-frame-length Inv-loop μ-loop
 framed c = c .before .before .before .before .before .before
@@ -31,50 +31,76 @@ abbrev looped : tie.After-slot Inv-loop μ-loop → tie.In-loop Inv-loop μ-loop
 looped c = c .before .before .before .before .before .before .before
 
 abbrev slotted : tie.After-write-slot Inv-loop μ-loop → tie.After-slot Inv-loop μ-loop
-slotted c = c .before .before .before .before .before .before .before .before .before .before .before .before .before .before .before
+slotted c = c .before .before .before .before .before .before .before .before .before .before .before .before .before .before
 
 frame-length-requires : tie.Need-frame-length-requires Inv-loop μ-loop
-frame-length-requires c κs = few-cores (c .before .before .before .before .before .before .before .before .before .before .pre)
+frame-length-requires c κs = few-cores (c .before .before .before .before .before .before .before .before .before .pre)
 
 release-requires : tie.Need-release-requires Inv-loop μ-loop
-release-requires c κs = lengths (c .before .before .before .before .before .before .before .before .before .before .before .before .before .pre)
+release-requires c κs = lengths (c .before .before .before .before .before .before .before .before .before .before .before .before .pre)
 
 loop-holds : tie.Need-loop-holds Inv-loop μ-loop
 loop-holds c =
-    let pre = c .before .before .before .before .before .before .before .before .before .before .before .before .before .before .before .before .pre in
+    let pre = c .before .before .before .before .before .before .before .before .before .before .before .before .before .before .before .pre in
     let e = c .before .before .release .ensures in
-    rw (told pre e) (start _ _ refl pre e)
+    rw (told pre e) (start _ pre e)
+
+array-borrow-prefix-cores : tie.Need-array-borrow-prefix-cores Inv-loop μ-loop
+array-borrow-prefix-cores c = few-cores (begun (c .before .before .before .before .before .before) .pre)
+
+slice-aggregate-slot : tie.Need-slice-aggregate-slot Inv-loop μ-loop
+slice-aggregate-slot c = sym (length-take-le _ _ (few-cores (begun (c .before .before .before .before .before .before .before) .pre)))
 
 slot-requires : tie.Need-slot-requires Inv-loop μ-loop
 slot-requires c κs =
-    let loop = c .before .before .before .before .before .before in
-    slot-ready (still (begun (loop .before) .pre) (freed (loop .before) .release .ensures)) (loop .before .loop .inv)
+    let at = c .before .before .before .before .before .before .before in
+    (slot-ready (still (begun at .pre) (freed at .release .ensures)) (at .loop .inv) (length-take-le _ _ (few-cores (begun at .pre))), zeros-front 32 (begun at .args .m))
 
 sub-write-slot : tie.Need-sub-write-slot Inv-loop μ-loop
 sub-write-slot c =
-    let loop = looped (c .before .before .before .before .before .before .before .before .before .before .before .before) in
-    omega (arith, place-room (still (begun (loop .before) .pre) (freed (loop .before) .release .ensures)) (loop .before .loop .inv) (loop .loop-test .taken))
+    let loop = looped (c .before .before .before .before .before .before .before .before .before .before .before) in
+    let at = loop .before in
+    omega (arith, place-room (still (begun at .pre) (freed at .release .ensures)) (at .loop .inv) (loop .loop-test .taken))
 
 part-write-slot-start : tie.Need-part-write-slot-start Inv-loop μ-loop
 part-write-slot-start c =
-    let loop = looped (c .before .before .before .before .before .before .before .before .before .before .before .before) in
-    omega (arith, place-room (still (begun (loop .before) .pre) (freed (loop .before) .release .ensures)) (loop .before .loop .inv) (loop .loop-test .taken))
+    let loop = looped (c .before .before .before .before .before .before .before .before .before .before .before) in
+    let at = loop .before in
+    omega (arith, place-room (still (begun at .pre) (freed at .release .ensures)) (at .loop .inv) (loop .loop-test .taken))
 
 part-write-slot-end : tie.Need-part-write-slot-end Inv-loop μ-loop
 part-write-slot-end c =
-    let loop = looped (c .before .before .before .before .before .before .before .before .before .before .before .before) in
-    omega (arith, place-room (still (begun (loop .before) .pre) (freed (loop .before) .release .ensures)) (loop .before .loop .inv) (loop .loop-test .taken))
+    let loop = looped (c .before .before .before .before .before .before .before .before .before .before .before) in
+    let at = loop .before in
+    omega (arith, place-room (still (begun at .pre) (freed at .release .ensures)) (at .loop .inv) (loop .loop-test .taken))
 
 add-write-slot : tie.Need-add-write-slot Inv-loop μ-loop
 add-write-slot c =
-    let loop = looped (c .before .before .before .before .before .before .before .before .before .before .before .before .before) in
-    omega (arith, begun (loop .before) .pre .in-time, loop .before .loop .inv .within)
+    let at = looped (c .before .before .before .before .before .before .before .before .before .before .before .before) .before in
+    omega (arith, begun at .pre .in-time, at .loop .inv .within)
+
+array-share-prefix-cores : tie.Need-array-share-prefix-cores Inv-loop μ-loop
+array-share-prefix-cores c =
+    let slot = c .before .before .before .before .before .before .before .before .before .before .before .before in
+    let loop = looped slot in
+    let at = loop .before in
+    front-long (still (begun at .pre) (freed at .release .ensures)) (at .loop .inv) (loop .loop-test .taken) (length-take-le _ _ (few-cores (begun at .pre))) (slot .slot .ensures) _
+
+slice-aggregate-write-slot : tie.Need-slice-aggregate-write-slot Inv-loop μ-loop
+slice-aggregate-write-slot c =
+    let slot = c .before .before .before .before .before .before .before .before .before .before .before .before .before in
+    let loop = looped slot in
+    let at = loop .before in
+    sym (length-take-le _ _ (front-long (still (begun at .pre) (freed at .release .ensures)) (at .loop .inv) (loop .loop-test .taken) (length-take-le _ _ (few-cores (begun at .pre))) (slot .slot .ensures) _))
 
 write-slot-requires : tie.Need-write-slot-requires Inv-loop μ-loop
 write-slot-requires c κs =
-    let slot = c .before .before .before .before .before .before .before .before .before .before .before .before .before .before in
+    let slot = c .before .before .before .before .before .before .before .before .before .before .before .before .before in
     let loop = looped slot in
-    frame-room (still (begun (loop .before) .pre) (freed (loop .before) .release .ensures)) (loop .before .loop .inv) (loop .loop-test .taken) (slot .slot .ensures)
+    let at = loop .before in
+    let run = still (begun at .pre) (freed at .release .ensures) in
+    rw (front-placing run (at .loop .inv) (loop .loop-test .taken) (length-take-le _ _ (few-cores (begun at .pre))) (slot .slot .ensures) _)
+    (frame-room run (at .loop .inv) (loop .loop-test .taken) (length-take-le _ _ (few-cores (begun at .pre))) (slot .slot .ensures))
 
 cast-moves : tie.Need-cast-moves Inv-loop μ-loop
 cast-moves c = omega arith
@@ -83,7 +109,8 @@ add-moves : tie.Need-add-moves Inv-loop μ-loop
 add-moves c =
     let slot = slotted (c .before .before .before) in
     let loop = looped slot in
-    record { fits = moves-fit (still (begun (loop .before) .pre) (freed (loop .before) .release .ensures)) (loop .before .loop .inv) (loop .loop-test .taken) (slot .slot .ensures) }
+    let at = loop .before in
+    record { fits = moves-fit (still (begun at .pre) (freed at .release .ensures)) (at .loop .inv) (loop .loop-test .taken) (length-take-le _ _ (few-cores (begun at .pre))) (slot .slot .ensures) }
 
 cast-misses : tie.Need-cast-misses Inv-loop μ-loop
 cast-misses c = omega arith
@@ -92,18 +119,20 @@ add-misses : tie.Need-add-misses Inv-loop μ-loop
 add-misses c =
     let slot = slotted (c .before .before .before .before) in
     let loop = looped slot in
-    record { fits = misses-fit (still (begun (loop .before) .pre) (freed (loop .before) .release .ensures)) (loop .before .loop .inv) (loop .loop-test .taken) (slot .slot .ensures) }
+    let at = loop .before in
+    record { fits = misses-fit (still (begun at .pre) (freed at .release .ensures)) (at .loop .inv) (loop .loop-test .taken) (length-take-le _ _ (few-cores (begun at .pre))) (slot .slot .ensures) }
 
 add-place : tie.Need-add-place Inv-loop μ-loop
 add-place c =
     let loop = looped (slotted (c .before .before .before .before)) in
     let at = loop .before in
-    omega (arith, place-room (still (begun at .pre) (freed at .release .ensures)) (at .loop .inv) (loop .loop-test .taken), out-size (still (begun at .pre) (freed at .release .ensures)) (at .loop .inv), framed at .frame-length .ensures, begun at .good)
+    let run = still (begun at .pre) (freed at .release .ensures) in
+    omega (arith, place-room run (at .loop .inv) (loop .loop-test .taken), out-size run (at .loop .inv), framed at .frame-length .ensures, begun at .good)
 
 add-k : tie.Need-add-k Inv-loop μ-loop
 add-k c =
-    let loop = looped (slotted (c .before .before .before .before)) in
-    omega (arith, begun (loop .before) .pre .in-time)
+    let at = looped (slotted (c .before .before .before .before)) .before in
+    omega (arith, begun at .pre .in-time)
 
 loop-less : tie.Need-loop-less Inv-loop μ-loop
 loop-less c = omega arith
@@ -113,13 +142,17 @@ loop-again c =
     let frame = c .before .before .before .before in
     let slot = slotted frame in
     let loop = looped slot in
-    turn (still (begun (loop .before) .pre) (freed (loop .before) .release .ensures)) (loop .before .loop .inv) (loop .loop-test .taken) (slot .slot .ensures) (framed (loop .before) .frame-length .ensures) (frame .write-slot .ensures)
+    let at = loop .before in
+    let run = still (begun at .pre) (freed at .release .ensures) in
+    let wide = (length-take-le _ _ (few-cores (begun at .pre))) in
+    turn run (at .loop .inv) (loop .loop-test .taken) wide (slot .slot .ensures) (framed at .frame-length .ensures)
+    (rw (front-placing run (at .loop .inv) (loop .loop-test .taken) wide (slot .slot .ensures) _) at (frame .write-slot .ensures))
 
 array-share-prefix-none : tie.Need-array-share-prefix-none Inv-loop μ-loop
-array-share-prefix-none c = few-tasks (c .before .before .before .before .before .before .before .before .before .before .before .before .before .before .before .before .before .before .before .before .pre)
+array-share-prefix-none c = few-tasks (c .before .before .before .before .before .before .before .before .before .before .before .before .before .before .before .before .before .before .before .pre)
 
 slice-aggregate-release : tie.Need-slice-aggregate-release Inv-loop μ-loop
-slice-aggregate-release c = sym (length-take-le _ _ (few-tasks (c .before .before .before .before .before .before .before .before .before .before .before .before .before .before .before .before .before .before .before .before .before .pre)))
+slice-aggregate-release c = sym (length-take-le _ _ (few-tasks (c .before .before .before .before .before .before .before .before .before .before .before .before .before .before .before .before .before .before .before .before .pre)))
 
 release-requires-2 : tie.Need-release-requires-2 Inv-loop μ-loop
 release-requires-2 c κs =
@@ -163,12 +196,6 @@ same-length-6 : tie.Need-same-length-6 Inv-loop μ-loop
 same-length-6 c =
     let loop = c .before .before .before .before .before .before .before in
     let pre = still (begun loop .pre) (freed loop .release .ensures) in
-    loop .loop .inv .wide
-
-same-length-7 : tie.Need-same-length-7 Inv-loop μ-loop
-same-length-7 c =
-    let loop = c .before .before .before .before .before .before .before in
-    let pre = still (begun loop .pre) (freed loop .release .ensures) in
     out-size pre (loop .loop .inv)
 
 returns : tie.Need-returns Inv-loop μ-loop
@@ -187,11 +214,15 @@ run-slots-spec =
     frame-length-requires
     release-requires
     loop-holds
+    array-borrow-prefix-cores
+    slice-aggregate-slot
     slot-requires
     sub-write-slot
     part-write-slot-start
     part-write-slot-end
     add-write-slot
+    array-share-prefix-cores
+    slice-aggregate-write-slot
     write-slot-requires
     cast-moves
     add-moves
@@ -210,5 +241,4 @@ run-slots-spec =
     same-length-4
     same-length-5
     same-length-6
-    same-length-7
     returns)
