@@ -83,7 +83,7 @@ shareAt tbl k = share (repeatLength (tbl .rows)) (rowOf tbl (taskAt tbl k))
 
 -- no period is 0
 pub accepted-periods : (tbl : Table) → Accepted tbl → Periodic tbl
-accepted-periods tbl a i low high = le-trans (a .row i low high .low) (a .row i low high .within)
+accepted-periods tbl a i low high = le-trans (a .row i low high .works) (a .row i low high .fits)
 
 -- the table's tasks
 unfoldable pub ranked : (tbl : Table) → Accepted tbl → Tasks
@@ -97,8 +97,8 @@ ranked tbl a =
       repeat = repeatLength (tbl .rows);
       share = shareAt tbl;
       lasting = repeat-pos (tbl .rows);
-      timed = λ k h. le-trans (row k h .low) (row k h .within);
-      fitting = λ k h. row k h .within;
+      timed = λ k h. le-trans (row k h .works) (row k h .fits);
+      fitting = λ k h. row k h .fits;
       even = λ k h. repeat-share tbl (accepted-periods tbl a) (taskAt tbl k) (task-low tbl k (rw (ranks-all tbl) at h)) (task-high tbl k (rw (ranks-all tbl) at h));
     }
   where

@@ -1,18 +1,18 @@
 -- Digits read and written one at a time: what one more digit does to a number that is read from the front, and to a field
 -- that is written from the back.
-use Prim.Native.Nat.{ℕ, suc, _+_, _-_, _*_, _/_, _%_, _^_, _≤_, _<_, zero-le}
+use Prim.Native.Nat.{ℕ, suc, _+_, _-_, _*_, _^_, _≤_, _<_, zero-le}
 use mathlib.Core.Path.{_≡_, refl, sym, ap, _∙_}
-use mathlib.Core.List.{List, _∷_, _++_}
+use mathlib.Core.List.{List, _∷_}
 use mathlib.Core.Option.{none, some}
 use native.Mathlib.Nat.{add-zero, sub-zero, pow-suc, lt-of-lt-of-le, pow-le-pow-right}
 use native.Mathlib.Numerals.{add-one}
 use native.Mathlib.Omega.{arith}
 use lib.Dec.{lit<}
-use lib.ListN.{length, getD, take, drop, set}
+use lib.ListN.{length, getD, take, drop}
 use lib.Seq.{drop-cons}
 use Rattle.laws.specs.Digits.{digit, digitValue, field, valueAfter, value}
 use Rattle.laws.proofs.Digits.{digitValue-some}
-use Rattle.laws.proofs.Backwards as Backwards
+use Rattle.laws.proofs.Backwards.{InPlaces}
 
 -- ---- a number read from the front
 
@@ -82,21 +82,6 @@ module _ (s : List ℕ) (from width : ℕ) where
 
 -- ---- a field written from the back
 
--- the last digits of a field stand in their places, and v, in i digits, has yet to go before them
-abbrev pub Writing : List ℕ → ℕ → ℕ → List ℕ → ℕ → ℕ → Type 0
-Writing = Backwards.Writing field
-
-module _ (out₀ : List ℕ) (width v₀ : ℕ) where
-  -- nothing is written yet
-  pub writing-starts : width ≤ length out₀ → Writing out₀ width v₀ out₀ v₀ width
-  writing-starts = Backwards.writing-starts field out₀ width v₀
-
-  -- one more digit is written, the last one first
-  pub writing-goes-on : (out : List ℕ) (v i : ℕ) → Writing out₀ width v₀ out v i → 0 < i → Writing out₀ width v₀ (set out (i - 1) (digit (v % 16))) (v / 16) (i - 1)
-  unfolding field
-  writing-goes-on out v i w h = Backwards.writing-goes-on field out₀ width v₀ out v i w (λ u. digit (u % 16)) (λ u. u / 16) (λ k u. refl) h
-
-  -- all digits are written
-  pub writing-ends : (out : List ℕ) (v i : ℕ) → Writing out₀ width v₀ out v i → i ≤ 0 → out ≡ field width v₀ ++ drop width out₀
-  unfolding field
-  writing-ends out v i w h = Backwards.writing-ends field out₀ width v₀ out v i w (λ u. refl) h
+pub field-places : InPlaces field 16 digit
+unfolding field
+field-places = record { none = λ v. refl; more = λ w v. refl }

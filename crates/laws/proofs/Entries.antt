@@ -1,34 +1,21 @@
--- What tests of every entry of a list say, and how many numbers stand in a list; sums of equal entries; and the multiples of
+-- Tests and numbers that pass for each other, and how many numbers stand in a list; sums of equal entries; and the multiples of
 -- t below a number.
 use Prim.Native.Nat.{ℕ, zero, suc, _+_, _-_, _*_, _/_, _%_, _≤_, _<_, zero-le}
 use mathlib.Core.Path.{_≡_, refl, ap, _∙_}
-use mathlib.Core.Bool.{Bool, true, false, cond, not, _&&_, _||_, and-assoc}
+use mathlib.Core.Bool.{Bool, true, false, cond, not, _||_}
 use mathlib.Core.Logic.{⊎-elim}
-use mathlib.Core.List.{List, [], _∷_, _++_, map}
-use native.Mathlib.Nat.{le-of-suc-le-suc, not-suc-le-zero, div-add-mod', mod-lt, add-div-right, add-zero, eq-zero-or-pos}
+use mathlib.Core.List.{List, [], _∷_, _++_}
+use native.Mathlib.Nat.{div-add-mod', mod-lt, add-div-right, add-zero, eq-zero-or-pos}
 use native.Mathlib.Omega.{arith}
 use lib.Arith.{digits-div}
-use lib.Dec.{T, eqb, ltb, leb, eqb·suc-zero}
-use lib.ListN.{length, getD, replicate}
-use Rattle.laws.specs.Lists.{all, count, sum, join, numbers, later, position}
-use Rattle.laws.proofs.Tests.{to-T, and-T, and-left, and-right, decide, eqb-sym}
+use lib.Dec.{T, eqb, ltb, leb}
+use lib.ListN.{length, replicate}
+use Rattle.laws.specs.Lists.{count, sum, numbers, later, position}
+use Rattle.laws.proofs.Tests.{to-T, decide, eqb-sym}
 use Rattle.laws.proofs.Sorted.{count-from-none, count-from-once}
 use borrow.Author.Tests.{eqb-true, eqb-false, eq-eqb, lt-ltb, leb-true, leb-false}
 
 -- ---- tests
-
--- neither of two tests holds
-pub neither-left : (a b : Bool) → T (not (a || b)) → T (not a)
-neither-left true b t = t
-neither-left false b t = tt
-
-pub neither-right : (a b : Bool) → T (not (a || b)) → T (not b)
-neither-right true b t = absurd t
-neither-right false b t = t
-
-pub neither : (a b : Bool) → T (not a) → T (not b) → T (not (a || b))
-neither true b s t = s
-neither false b s t = t
 
 -- one test holds where another does
 pub imply : (a b : Bool) → T (not a || b) → a ≡ true → T b
@@ -42,45 +29,6 @@ implies false b f = tt
 -- equal numbers pass for equal
 pub eq-T : (a b : ℕ) → a ≡ b → T (eqb a b)
 eq-T a b e = to-T (eq-eqb a b e)
-
--- a number that is not 0
-pub not-zero : (c : ℕ) → T (not (eqb c 0)) → 1 ≤ c
-not-zero zero t = absurd t
-not-zero (suc c) t = omega arith
-
-pub zero-not : (c : ℕ) → 1 ≤ c → T (not (eqb c 0))
-zero-not zero h = absurd (omega arith)
-zero-not (suc c) h = rw eqb·suc-zero tt
-
--- ---- what holds of every entry
-
-module _ {A : Type 0} (p : A → Bool) where
-  -- every entry of two lists, one after the other, passes where the entries of both do
-  pub all-append : (xs ys : List A) → all p (xs ++ ys) ≡ all p xs && all p ys
-  all-append [] ys = refl
-  all-append (x ∷ xs) ys = rw (all-append xs ys, and-assoc)
-
-  -- every entry of lists put together passes, where every list's entries do
-  pub all-join : {B : Type 0} (f : B → List A) (bs : List B) → all p (join (map f bs)) ≡ all (λ b. all p (f b)) bs
-  all-join f [] = refl
-  all-join f (b ∷ bs) = all-append (f b) (join (map f bs)) ∙ rw (all-join f bs)
-
-  -- an entry, counted from 1, of a list whose every entry passes
-  pub all-entry : (d : A) (l : List A) → T (all p l) → (i : ℕ) → 1 ≤ i → i ≤ length l → T (p (getD (d ∷ l) i d))
-  all-entry d l t zero low high = absurd (not-suc-le-zero low)
-  all-entry d [] t (suc i) low high = absurd (not-suc-le-zero high)
-  all-entry d (x ∷ xs) t (suc zero) low high = and-left (p x) (all p xs) t
-  all-entry d (x ∷ xs) t (suc (suc i)) low high = all-entry d xs (and-right (p x) (all p xs) t) (suc i) (omega arith) (le-of-suc-le-suc high)
-
-  -- a list passes where each entry, counted from 1, does
-  pub entry-all : (d : A) (l : List A) → ((i : ℕ) → 1 ≤ i → i ≤ length l → T (p (getD (d ∷ l) i d))) → T (all p l)
-  entry-all d [] h = tt
-  entry-all d (x ∷ xs) h =
-      and-T (p x) (all p xs) (h 1 (omega arith) (omega arith)) (entry-all d xs (λ i low high. next i low (h (suc i) (omega arith) (omega arith))))
-    where
-      next : (i : ℕ) → 1 ≤ i → T (p (getD (d ∷ x ∷ xs) (suc i) d)) → T (p (getD (d ∷ xs) i d))
-      next zero low t = absurd (not-suc-le-zero low)
-      next (suc i) low t = t
 
 -- ---- where a number stands first
 

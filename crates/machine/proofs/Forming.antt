@@ -96,5 +96,5 @@ module _ (s : State) (full : Full s) where
         timed = λ i more.
             let fits : RowFits (rowOf (Tables.view (s .table)) (i + 1)) = accepted (Tables.view (s .table)) (to-T a) .row (i + 1) (omega arith) (omega (arith, size-view (s .table) (full .rows) few)) in
             let here : RowFits (Tables.viewRow (getD (s .table .rows) i Tables.zeroRow)) = rw (rowOf-view (s .table) (full .rows) few i more) at fits in
-            record { low = omega (arith, here .low, here .within); fits = here .within; high = here .high; soon = c };
+            record { low = omega (arith, here .works, here .fits); fits = here .fits; high = here .period; soon = c };
       }

@@ -1,11 +1,11 @@
 -- The lead: a difference of two small numbers, and why they are small.
 use Prim.Native.Nat.{ℕ, zero, suc, _+_, _-_, _*_, _/_, _^_, _≤_, _<_}
 use mathlib.Core.Path.{_≡_, refl, sym, ap, _∙_}
-use mathlib.Core.Bool.{Bool, true, false, cond, not}
+use mathlib.Core.Bool.{Bool, true, false, cond}
 use mathlib.Core.List.{List, [], _∷_}
 use native.Mathlib.Nat.{mul-le-mul, mul-le-mul-left, mul-le-mul-right, div-mul-le-self}
 use native.Mathlib.Omega.{arith}
-use lib.Dec.{T, ltb, nltb→le}
+use lib.Dec.{ltb}
 use lib.IntN.{ℤ, pos, negsuc, _-ℤ_}
 use lib.Signed.{mag}
 use mir.Syntax.{w64}
@@ -13,7 +13,6 @@ use mir.Val.{SFits, toZ, ofZ}
 use mir.ValLaws.{toZ-pos, toZ-ofZ}
 use lib.ListN.{getD}
 use Rattle.laws.specs.Lists.{at}
-use Rattle.laws.proofs.Entries.{neither-left, neither-right}
 use Rattle.rules.specs.Limits.{tasksMax, periodMax, clockMax}
 use Rattle.rules.specs.Rows as Rows
 use Rattle.rules.specs.Refusals.{Test, test}
@@ -22,6 +21,8 @@ use Rattle.rules.specs.States as States
 use Rattle.rules.specs.Answers.{askLead}
 use Rattle.rules.specs.declared.refusal.Refusal.the-variants.{BadTasks, BadState}
 use Rattle.rules.specs.Runs.{lead}
+use Rattle.reading_laws.specs.Bounds.{Within}
+use Rattle.reading_laws.proofs.Tests.{number-iff}
 use Rattle.slot_laws.proofs.Forms.{RowFits, Kept, formed-kept, formed-clock}
 use Rattle.tables.specs.Views as Tables
 use Rattle.tables.specs.declared.table.Row.{Row}
@@ -117,9 +118,9 @@ module _ (s : State) (full : Full s) (ok : formed s ≡ true) (i : ℕ) (low : 1
   -- its parts are small
   pub lead-small : Small (givenHere s i * rowHere s i .t) (s .clock .0 * rowHere s i .c)
   lead-small =
-      let short : rowHere s i .c ≤ 65_535 = omega (arith, fits .within, fits .high) in
+      let short : rowHere s i .c ≤ 65_535 = omega (arith, fits .fits, fits .period) in
       record {
-        left = worked-small (rowHere s i .c) (rowHere s i .t) (s .clock .0) (givenHere s i) (fits .within) (fits .high) soon given-few;
+        left = worked-small (rowHere s i .c) (rowHere s i .t) (s .clock .0) (givenHere s i) (fits .fits) (fits .period) soon given-few;
         right = omega (arith, mul-le-mul soon short);
       }
 
@@ -131,10 +132,8 @@ module _ (s : State) (full : Full s) (ok : formed s ≡ true) (i : ℕ) (low : 1
 -- ---- the answer
 
 -- a number that is not outside its bounds is within them
-within : (x low high : ℕ) → outside x low high ≡ false → (low ≤ x) × (x ≤ high)
-within x low high e =
-    let in-bounds : T (not (outside x low high)) = rw e tt in
-    (nltb→le x low (neither-left (ltb x low) (ltb high x) in-bounds), nltb→le high x (neither-right (ltb x low) (ltb high x) in-bounds))
+within : (x low high : ℕ) → outside x low high ≡ false → Within low high x
+within x low high e = number-iff low high x .0 (rw e tt)
 
 module _ (s : State) (i : ℕ) where
   -- the test of the task, after that of the state
@@ -161,17 +160,17 @@ module _ (s : State) (i : ℕ) where
       pub lead-place : (1 ≤ i) × (i - 1 < tasksMax)
       lead-place =
           let w = within i 1 (tasks s) e in
-          (w .0, omega (arith, w .0, w .1, padded-few s (formed-says s ok .0)))
+          (w .least, omega (arith, w .least, w .most, padded-few s (formed-says s ok .0)))
 
       module _ {p q : ℕ} (ep : p ≡ rowHere s i .t) (eq : q ≡ s .clock .0 * rowHere s i .c) where
         pub lead-parts : Small (givenHere s i * p) q
         lead-parts =
             let w = within i 1 (tasks s) e in
-            rw (ep, eq) (lead-small s full ok i (w .0) (w .1))
+            rw (ep, eq) (lead-small s full ok i (w .least) (w .most))
 
         pub lead-in : (z : ℤ) → z ≡ pos (givenHere s i * p) -ℤ pos q → Taken z ≡ leadAnswer (asked s (λ st. askLead st i))
         unfolding askLead
         lead-in z h =
             let w = within i 1 (tasks s) e in
-            let whole : z ≡ lead (view s) i = h ∙ rw (ep, eq) (sym (lead-is s full ok i (w .0) (w .1))) in
+            let whole : z ≡ lead (view s) i = h ∙ rw (ep, eq) (sym (lead-is s full ok i (w .least) (w .most))) in
             ap Taken whole ∙ sym (ap leadAnswer (asked-well s tests (λ st. lead st i) ok) ∙ rw (sizes, e))

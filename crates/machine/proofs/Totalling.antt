@@ -66,7 +66,7 @@ module _ (s : State) (full : Full s) (ok : formed s ≡ true) where
       let inside : suc i ≤ size (view s .table) = omega (arith, long, sizes) in
       let row = kept .taken .row (suc i) (omega arith) inside in
       let r : Rows.Row = rowOf (view s .table) (suc i) in
-      omega (arith, kept .task (suc i) (omega arith) inside .books, released-most (r .c) (r .t) (view s .clock) (omega (arith, row .within, row .high)) (row .high) soon)
+      omega (arith, kept .task (suc i) (omega arith) inside .books, released-most (r .c) (r .t) (view s .clock) (omega (arith, row .fits, row .period)) (row .period) soon)
 
   -- so that all units dropped fit 64 bits
   pub dropped-small : sum (view s .dropped) < 2 ^ 64

@@ -41,13 +41,14 @@ written-read s tbl e = accepted-text (subst (Reads s) e (reads s))
 
 -- ---- how long a file is
 
-length-rows : (rows : List Row) → length (join (map rowLine rows)) ≡ 11 * length rows
+-- 11 bytes for each row
+pub length-rows : (rows : List Row) → length (join (map rowLine rows)) ≡ 11 * length rows
 unfolding rowLine
 length-rows [] = refl
 length-rows (r ∷ rows) =
     omega (arith, length-append (rowLine r) (join (map rowLine rows)), length-frame row (r .c ∷ r .t ∷ []) refl, length-rows rows)
 
--- a header's 7 bytes and 11 for each row
+-- and a header's 7 bytes
 pub length-text : (tbl : Table) → length (text tbl) ≡ 7 + 11 * size tbl
 unfolding text headerLine
 length-text tbl =

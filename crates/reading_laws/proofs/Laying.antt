@@ -1,13 +1,15 @@
--- A line laid at the front of a buffer, piece by piece, each through the lent tail, and its line feed.
-use Prim.Native.Nat.{ℕ, _+_, _-_, _≤_}
-use mathlib.Core.Path.{_≡_, ap, _∙_}
+-- A text laid at the front of a buffer, piece by piece, each through the lent tail: a line with its line feed, and any number of pieces of one
+-- length.
+use Prim.Native.Nat.{ℕ, _+_, _-_, _*_, _≤_, _<_, zero-le}
+use mathlib.Core.Path.{_≡_, refl, sym, ap, _∙_}
 use mathlib.Core.List.{List, [], _∷_, _++_}
+use native.Mathlib.Nat.{mul-le-mul-left}
 use native.Mathlib.Omega.{arith}
 use borrow.Rule.Slice.PartMut.{midOf, putMid}
-use lib.ListN.{length, drop, set, length-append, length-drop}
+use lib.ListN.{length, drop, set, length-append, length-take, length-drop}
 use Rattle.rules.specs.Answers.{lay}
 use Rattle.rules.specs.Frames.{lineFeed}
-use Rattle.reading_laws.proofs.Lays.{lay-front, laid-on, laid-byte}
+use Rattle.reading_laws.proofs.Lays.{length-lay, lay-front, laid-on, laid-byte}
 
 -- so far a text of some length was laid
 pub record Laid (out text now : List ℕ) (end : ℕ) : Type 0 where
@@ -48,3 +50,47 @@ module _ (out : List ℕ) where
   -- a line at the front of the buffer takes the place of as many bytes
   pub line-kept : (line : List ℕ) {now : List ℕ} {n : ℕ} → length line ≡ n → n ≤ length out → now ≡ line ++ drop n out → length now ≡ length out
   line-kept line {now} {n} len room e = ap length e ∙ length-append line (drop n out) ∙ omega (arith, length-drop n out)
+
+-- ---- pieces of one length
+
+-- the first i of n pieces stand there, one right after the other, and `text i` is what they are together
+pub record Pieces (text : ℕ → List ℕ) (size n : ℕ) (out now : List ℕ) (end i : ℕ) : Type 0 where
+  pub within : i ≤ n
+  pub ends : end ≡ size * i
+  pub room : size * n ≤ length out
+  pub kept : length now ≡ length out
+  pub laid : Laid out (text i) now end
+
+module _ {text : ℕ → List ℕ} {size n : ℕ} {out : List ℕ} where
+  -- none yet
+  pub no-piece : text 0 ≡ [] → size * n ≤ length out → Pieces text size n out out 0 0
+  no-piece none room =
+      record { within = zero-le; ends = omega arith; room = room; kept = refl; laid = record { whole = rw none (sym (lay-front out [])); ends = ap length none } }
+
+  module _ {now : List ℕ} {end i : ℕ} (p : Pieces text size n out now end i) where
+    module _ (missing : i < n) where
+      fits : end + size ≤ length out
+      fits = omega (arith, mul-le-mul-left size missing, p .ends, p .room)
+
+      -- there is room for one more
+      pub piece-room : size ≤ length (midOf end (length now - end) now)
+      piece-room = omega (arith, fits, length-take (length now - end) (drop end now), length-drop end now, p .kept)
+
+      -- one more
+      pub next-piece : {tail : List ℕ} (next : List ℕ) → length next ≡ size → text (i + 1) ≡ text i ++ next
+          → tail ≡ next ++ drop size (midOf end (length now - end) now) → Pieces text size n out (putMid end (length now - end) now tail) (end + size) (i + 1)
+      next-piece next len joined e =
+          let laid = more out (p .laid) next size len fits e in
+          record {
+            within = omega arith;
+            ends = omega (arith, p .ends);
+            room = p .room;
+            kept = ap length (laid .whole) ∙ length-lay out 0 (text i ++ next) (omega (arith, laid .ends, fits));
+            laid = record { whole = laid .whole ∙ ap (lay out 0) (sym joined); ends = ap length joined ∙ laid .ends };
+          }
+
+    -- all of them
+    pub all-pieces : n ≤ i → now ≡ text n ++ drop (size * n) out
+    all-pieces h =
+        let e : i ≡ n = omega (arith, p .within) in
+        rw e at (laid-front out (p .laid) (size * i) (p .ends))

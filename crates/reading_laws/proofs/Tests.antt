@@ -75,7 +75,8 @@ settle-taken ts a b e = by-cases (first ts) refl e
 abbrev outsideRow : Row → Bool
 outsideRow r = eqb (r .c) 0 || ltb (r .t) (r .c) || ltb periodMax (r .t)
 
-number-iff : (low high x : ℕ) → T (not (outside x low high)) ↔ Within low high x
+-- a number is not outside its bounds exactly where it is within them
+pub number-iff : (low high x : ℕ) → T (not (outside x low high)) ↔ Within low high x
 number-iff low high x =
     let w = nor-iff (ltb x low) (ltb high x) (order-iff x low) (order-iff high x) in
     (λ t. record { least = w .0 t .0; most = w .0 t .1 }, λ b. w .1 (b .least, b .most))
@@ -144,6 +145,11 @@ pub every-getD : {A : Type 0} (P : A → Type 0) (xs : List A) (d : A) (i : ℕ)
 every-getD P [] d i ps h = absurd (omega arith)
 every-getD P (x ∷ xs) d zero ps h = ps .0
 every-getD P (x ∷ xs) d (suc i) ps h = every-getD P xs d i (ps .1) (omega arith)
+
+-- and the other way round
+pub getD-every : {A : Type 0} (P : A → Type 0) (xs : List A) (d : A) → ((i : ℕ) → i < length xs → P (getD xs i d)) → Every P xs
+getD-every P [] d ps = tt
+getD-every P (x ∷ xs) d ps = (ps 0 (omega arith), getD-every P xs d (λ i h. ps (suc i) (omega arith)))
 
 -- ---- which refusal is given
 

@@ -206,7 +206,7 @@ module _ {st : State} (kept : Kept st) (cores : List ℕ) (backed : Backed st co
       was = kept .task i low high
 
       ticks : 1 ≤ r .t
-      ticks = le-trans (kept .taken .row i low high .low) (kept .taken .row i low high .within)
+      ticks = le-trans (kept .taken .row i low high .works) (kept .taken .row i low high .fits)
 
       ready-is : at (ready st) i ≡ cond (releases r s) (demand r) left
       ready-is = at-ready st i low high

@@ -1,30 +1,29 @@
 -- What the tests of a table and of a state say: records of facts, and that a test passes exactly where its facts hold.
-use Prim.Native.Nat.{ℕ, _+_, _*_, _≤_}
+use Prim.Native.Nat.{ℕ, zero, suc, _+_, _*_, _≤_}
 use mathlib.Core.Path.{_≡_}
-use mathlib.Core.Bool.{true, not, _&&_, _||_}
-use lib.Dec.{T, eqb, leb→le, le→leb, nltb→le, eqb→eq}
-use lib.Arith.{le→nltb}
+use mathlib.Core.Bool.{true, not, _||_}
+use native.Mathlib.Omega.{arith}
+use lib.Dec.{T, eqb, leb→le, le→leb, eqb→eq}
 use lib.ListN.{length}
-use Rattle.laws.specs.Lists.{all, at, same}
+use Rattle.laws.specs.Lists.{at, same}
 use Rattle.laws.proofs.Tests.{and-T, and-left, and-right, same→eq, same-refl}
 use Rattle.laws.proofs.Each.{all-numbers, numbers-all}
-use Rattle.laws.proofs.Entries.{neither-left, neither-right, neither, imply, implies, eq-T, not-zero, zero-not, all-append, all-join, all-entry, entry-all}
-use Rattle.rules.specs.Limits.{coresMin, coresMax, tasksMin, tasksMax, periodMax, repeatMax, clockMax}
-use Rattle.rules.specs.Refusals.{passes}
+use Rattle.laws.proofs.Entries.{imply, implies, eq-T}
+use Rattle.rules.specs.Limits.{coresMin, coresMax, tasksMin, tasksMax, repeatMax, clockMax}
 use Rattle.rules.specs.Rows.{Row, releases, released}
 use Rattle.rules.specs.Repeat.{repeatLength}
-use Rattle.rules.specs.Tables.{Table, size, noRow, rowOf, headerTests, rowTests, wholeTests, listTests, accepts}
+use Rattle.rules.specs.Tables.{Table, size, noRow, rowOf, accepts}
 use Rattle.rules.specs.Verdicts.{order}
 use Rattle.rules.specs.States.{State}
 use Rattle.rules.specs.Forms.{sized, taskFormed, wellFormed}
+use Rattle.reading_laws.specs.Bounds.{RowInBounds, Every}
+use Rattle.reading_laws.proofs.Tests.{accepts-iff, every-getD, getD-every}
 
 -- ---- a table
 
 -- what the tests of a row leave: 1 ≤ C ≤ T ≤ 65,535
-pub record RowFits (r : Row) : Type 0 where
-  pub low : 1 ≤ r .c
-  pub within : r .c ≤ r .t
-  pub high : r .t ≤ periodMax
+abbrev pub RowFits : Row → Type 0
+RowFits = RowInBounds
 
 -- what the tests of a list of rows leave
 pub record Accepted (tbl : Table) : Type 0 where
@@ -35,47 +34,32 @@ pub record Accepted (tbl : Table) : Type 0 where
   pub row : (i : ℕ) → 1 ≤ i → i ≤ size tbl → RowFits (rowOf tbl i)
   pub repeat : repeatLength (tbl .rows) ≤ repeatMax
 
--- a row passes its tests exactly where it fits
-pub row-fits : (r : Row) → T (passes (rowTests r)) → RowFits r
-unfolding rowTests
-row-fits r t =
-    record {
-      low = search (and-left, neither-left, not-zero);
-      within = search (and-left, neither-left, neither-right, nltb→le);
-      high = search (and-left, neither-right, nltb→le);
-    }
-
-pub fits-row : (r : Row) → RowFits r → T (passes (rowTests r))
-unfolding rowTests
-fits-row r f = search (and-T, neither, zero-not, le→nltb)
-
--- the tests of a table, one after the other
-accepts-parts : (tbl : Table)
-    → accepts tbl ≡ passes (headerTests (tbl .m) (size tbl)) && all (λ r. passes (rowTests r)) (tbl .rows) && passes (wholeTests (tbl .rows))
-unfolding accepts listTests
-accepts-parts tbl = simp (all-append, all-join)
-
 -- a table is accepted exactly where these facts hold
 pub accepted : (tbl : Table) → T (accepts tbl) → Accepted tbl
-unfolding headerTests wholeTests
 accepted tbl t =
-    let parts = rw (accepts-parts tbl) at t in
+    let b = accepts-iff tbl .0 t in
     record {
-      cores-low = search (and-left, neither-left, nltb→le);
-      cores-high = search (and-left, neither-right, nltb→le);
-      tasks-low = search (and-left, and-right, neither-left, nltb→le);
-      tasks-high = search (and-left, and-right, neither-right, nltb→le);
-      row =
-          λ i low high.
-          row-fits (rowOf tbl i) (all-entry (λ r. passes (rowTests r)) noRow (tbl .rows) (search (and-left, and-right)) i low high);
-      repeat = search (and-left, and-right, nltb→le);
+      cores-low = b .cores .least;
+      cores-high = b .cores .most;
+      tasks-low = b .tasks .least;
+      tasks-high = b .tasks .most;
+      row = fine (b .fine);
+      repeat = b .repeat;
     }
+  where
+    fine : Every RowInBounds (tbl .rows) → (i : ℕ) → 1 ≤ i → i ≤ size tbl → RowFits (rowOf tbl i)
+    fine b zero low high = absurd (omega arith)
+    fine b (suc i) low high = every-getD RowInBounds (tbl .rows) noRow i b high
 
 pub accepts-of : (tbl : Table) → Accepted tbl → T (accepts tbl)
-unfolding headerTests wholeTests
 accepts-of tbl a =
-    let rows = entry-all (λ r. passes (rowTests r)) noRow (tbl .rows) (λ i low high. fits-row (rowOf tbl i) (a .row i low high)) in
-    rw (accepts-parts tbl) (search (and-T, neither, le→nltb) depth 9)
+    accepts-iff tbl .1
+    (record {
+      cores = record { least = a .cores-low; most = a .cores-high };
+      tasks = record { least = a .tasks-low; most = a .tasks-high };
+      fine = getD-every RowInBounds (tbl .rows) noRow (λ i h. a .row (suc i) (omega arith) h);
+      repeat = a .repeat;
+    })
 
 -- ---- a state
 

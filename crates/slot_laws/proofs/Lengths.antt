@@ -1,32 +1,18 @@
 -- How long the lines of slots and of the totals are.
 use Prim.Native.Nat.{ℕ, zero, suc, _+_, _*_}
 use mathlib.Core.Path.{_≡_, refl, _∙_}
-use mathlib.Core.List.{List, [], _∷_, _++_}
+use mathlib.Core.List.{[], _∷_, _++_}
 use native.Mathlib.Nat.{suc-mul}
 use native.Mathlib.Omega.{arith}
 use lib.ListN.{length, length-append, length-replicate}
 use Rattle.laws.specs.Lists.{sum}
-use Rattle.laws.specs.Digits.{field}
-use Rattle.laws.proofs.Digits.{length-field}
 use Rattle.laws.proofs.Entries.{sum-replicate}
 use Rattle.rules.specs.Frames as Frames
-use Rattle.rules.specs.Frames.{Shape, fields, frame}
 use Rattle.rules.specs.States.{State}
 use Rattle.rules.specs.Slots.{Shown, release, choose, effect, slot}
 use Rattle.rules.specs.Runs.{shows, slotLine, slotLines, totalsLine}
+use Rattle.reading_laws.proofs.Frames.{length-frame}
 use Rattle.slot_laws.proofs.Placing.{place-length}
-
--- fields are as long as their widths together
-length-fields : (ws vs : List ℕ) → length vs ≡ length ws → length (fields ws vs) ≡ sum ws
-unfolding fields
-length-fields [] vs e = refl
-length-fields (w ∷ ws) [] e = absurd (omega arith)
-length-fields (w ∷ ws) (v ∷ vs) e = omega (arith, length-append (field w v) (fields ws vs), length-field w v, length-fields ws vs (omega arith))
-
--- a frame's line is its type, its fields and the line feed
-pub length-frame : (sh : Shape) (vs : List ℕ) → length vs ≡ length (sh .widths) → length (frame sh vs) ≡ 3 + sum (sh .widths)
-unfolding frame
-length-frame sh vs e = simp (length-append, length-field, length-fields (sh .widths) vs e) (omega arith)
 
 -- a slot's line has two digits a core and 15 bytes more
 pub length-slotLine : (s : Shown) → length (slotLine s) ≡ 2 * length (s .cores) + 15

@@ -1,16 +1,16 @@
 -- Bytes read and written one at a time: what one more byte does to a number that is read from the front, and to one that is
 -- written from the back.
-use Prim.Native.Nat.{ℕ, _+_, _-_, _*_, _/_, _%_, _^_, _≤_, _<_, zero-le}
+use Prim.Native.Nat.{ℕ, _+_, _*_, _^_, _≤_, _<_, zero-le}
 use mathlib.Core.Path.{_≡_, refl, ap, _∙_}
-use mathlib.Core.List.{List, _++_}
+use mathlib.Core.List.{List}
 use native.Mathlib.Nat.{pow-suc, lt-of-lt-of-le, pow-le-pow-right}
 use native.Mathlib.Numerals.{add-one}
 use native.Mathlib.Omega.{arith}
 use lib.Arith.{digits-lt}
 use lib.Dec.{lit<}
-use lib.ListN.{length, getD, take, drop, set, length-drop}
+use lib.ListN.{getD, take, drop, length-drop}
 use lib.Seq.{take-suc, getD-drop}
-use Rattle.laws.proofs.Backwards as Backwards
+use Rattle.laws.proofs.Backwards.{InPlaces}
 use Rattle.stored.specs.Layout.{bytesOf, valueOf}
 use Rattle.stored.specs.Places.{numberAt, Within, Read}
 use Rattle.stored.proofs.Numbers.{valueOf-snoc}
@@ -53,18 +53,6 @@ module _ (s : List ℕ) (from width : ℕ) where
 
 -- ---- a number written from the back
 
--- the last bytes of a number stand in their places, and v, in i bytes, has yet to go before them
-abbrev pub Writing : List ℕ → ℕ → ℕ → List ℕ → ℕ → ℕ → Type 0
-Writing = Backwards.Writing bytesOf
-
-module _ (out₀ : List ℕ) (width v₀ : ℕ) where
-  pub writing-starts : width ≤ length out₀ → Writing out₀ width v₀ out₀ v₀ width
-  writing-starts = Backwards.writing-starts bytesOf out₀ width v₀
-
-  pub writing-goes-on : (out : List ℕ) (v i : ℕ) → Writing out₀ width v₀ out v i → 0 < i → Writing out₀ width v₀ (set out (i - 1) (v % 256)) (v / 256) (i - 1)
-  unfolding bytesOf
-  writing-goes-on out v i w h = Backwards.writing-goes-on bytesOf out₀ width v₀ out v i w (λ u. u % 256) (λ u. u / 256) (λ k u. refl) h
-
-  pub writing-ends : (out : List ℕ) (v i : ℕ) → Writing out₀ width v₀ out v i → i ≤ 0 → out ≡ bytesOf width v₀ ++ drop width out₀
-  unfolding bytesOf
-  writing-ends out v i w h = Backwards.writing-ends bytesOf out₀ width v₀ out v i w (λ u. refl) h
+pub byte-places : InPlaces bytesOf 256 (λ b. b)
+unfolding bytesOf
+byte-places = record { none = λ v. refl; more = λ w v. refl }

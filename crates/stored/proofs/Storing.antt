@@ -1,5 +1,5 @@
 -- A state's bytes laid into a buffer, field by field and record by record, each through the lent tail.
-use Prim.Native.Nat.{ℕ, _+_, _-_, _*_, _≤_, _<_, zero-le}
+use Prim.Native.Nat.{ℕ, _+_, _-_, _*_, _≤_, _<_}
 use mathlib.Core.Path.{_≡_, refl, sym, ap, _∙_}
 use mathlib.Core.Bool.{true, false}
 use mathlib.Core.List.{List, [], _∷_, _++_, map, append-assoc, append-nil}
@@ -7,7 +7,7 @@ use native.Mathlib.Numerals.{add-one}
 use native.Mathlib.Omega.{arith}
 use borrow.Rule.Slice.PartMut.{midOf, putMid}
 use borrow.Author.Tests.{lt-ltb, le-ltb}
-use lib.ListN.{length, getD, drop, length-append, length-take, length-drop}
+use lib.ListN.{length, getD, drop, length-append}
 use Rattle.laws.specs.Lists.{sum, join, numbers}
 use Rattle.laws.proofs.Filling.{from-snoc}
 use Rattle.laws.proofs.Joins.{join-last}
@@ -20,8 +20,8 @@ use Rattle.rules.specs.declared.refusal.Refusal.the-variants.{NoRoom, BadState}
 use Rattle.tables.specs.Views as Tables
 use Rattle.tables.specs.Writes.{Wrote, made, wrote}
 use Rattle.tables.specs.declared.write.WriteAnswer.the-variants.{Written, Refused}
-use Rattle.reading_laws.proofs.Lays.{length-lay, lay-lent, lay-front}
-use Rattle.reading_laws.proofs.Laying.{Laid, first, more, ends-at, laid-front}
+use Rattle.reading_laws.proofs.Lays.{lay-lent}
+use Rattle.reading_laws.proofs.Laying.{Laid, first, more, ends-at, laid-front, Pieces, next-piece}
 use Rattle.machine.specs.Full.{Full}
 use Rattle.machine.specs.Views.{tasks, taskNumber, coreNumber, units, view, formed}
 use Rattle.machine.specs.declared.state.State.{State}
@@ -29,7 +29,7 @@ use Rattle.machine.proofs.Viewing.{at-viewed, size-view, rowOf-view}
 use Rattle.machine.proofs.Packing.{padded-few}
 use Rattle.machine.proofs.Asking.{formed-says, asked-ill, asked-well}
 use Rattle.stored.specs.Layout.{bytesOf, written, fixedWidths, taskWidths, lengthOf, fixedOf, taskOf, recordOf, store}
-use Rattle.stored.specs.Answers.{Room, storeState, storedState}
+use Rattle.stored.specs.Answers.{storeState, storedState}
 use Rattle.stored.proofs.Numbers.{length-bytesOf}
 use Rattle.stored.proofs.Fields.{length-written, length-records}
 use Rattle.stored.proofs.Round.{length-store}
@@ -115,61 +115,35 @@ halves-laid out c t rank last left done dropped {now} {tail} room one two =
 
 -- ---- the records, one right after the other
 
--- the records of the first i tasks stand at the front of the lent part
+-- the records of the first tasks
+abbrev pub firstRecords : State → ℕ → List ℕ
+firstRecords s i = join (map (recordOf (view s)) (numbers i))
+
+-- those of the first i tasks stand at the front of the lent part
 pub record Recording (out₀ : List ℕ) (s : State) (out : List ℕ) (at i : ℕ) : Type 0 where
   pub full : Full s
   pub few : tasks s ≤ tasksMax
-  pub within : i ≤ tasks s
-  pub place : at ≡ 34 * i
-  pub room : 34 * tasks s ≤ length out₀
-  pub kept : length out ≡ length out₀
-  pub laid : Laid out₀ (join (map (recordOf (view s)) (numbers i))) out at
+  pub pieces : Pieces (firstRecords s) 34 (tasks s) out₀ out at i
 
 module _ (s : State) where
-  long : (i : ℕ) → length (recordOf (view s) i) ≡ 34
-  long i = length-written taskWidths (taskOf (view s) i) refl
+  -- one record more
+  more-records : (i : ℕ) → firstRecords s (i + 1) ≡ firstRecords s i ++ recordOf (view s) (i + 1)
+  more-records i =
+      let one-more : 1 + i ≡ i + 1 = omega arith in
+      ap (λ (k : ℕ). firstRecords s k) (add-one i)
+      ∙ ap join (from-snoc (recordOf (view s)) 1 i)
+      ∙ join-last (map (recordOf (view s)) (numbers i)) (recordOf (view s) (1 + i))
+      ∙ ap (λ (k : ℕ). firstRecords s i ++ recordOf (view s) k) one-more
 
-module _ (out₀ : List ℕ) (s : State) where
-  pub recording-starts : Full s → Room s (34 * tasks s) out₀ → Recording out₀ s out₀ 0 0
-  recording-starts full r =
-      record { full = full; few = r .few; within = zero-le; place = refl; room = r .room; kept = refl; laid = record { whole = sym (lay-front out₀ []); ends = refl } }
-
-  module _ (out : List ℕ) (at i : ℕ) (w : Recording out₀ s out at i) where
-    -- there is room for one more
-    pub recording-room : i < tasks s → 34 ≤ length (midOf at (length out - at) out)
-    recording-room l =
-        omega (arith, length-take (length out - at) (drop at out), length-drop at out, w .room, w .place, w .kept)
-
-    pub recording-goes-on : i < tasks s → (tail : List ℕ) → tail ≡ written taskWidths (entries s i) ++ drop 34 (midOf at (length out - at) out)
-        → Recording out₀ s (putMid at (length out - at) out tail) (at + 34) (i + 1)
-    recording-goes-on l tail e =
-        let before : List ℕ = join (map (recordOf (view s)) (numbers i)) in
-        let next : List ℕ = recordOf (view s) (i + 1) in
-        let here : tail ≡ next ++ drop 34 (midOf at (length out - at) out) =
-        e ∙ ap (λ (vs : List ℕ). written taskWidths vs ++ drop 34 (midOf at (length out - at) out)) (sym (task-entries s (w .full) (w .few) i l))
-        in
-        let one-more : i + 1 ≡ 1 + i = omega arith in
-        let joined : before ++ next ≡ join (map (recordOf (view s)) (numbers (i + 1))) =
-        sym (join-last (map (recordOf (view s)) (numbers i)) next)
-        ∙ ap join (ap (λ (k : ℕ). map (recordOf (view s)) (numbers i) ++ (recordOf (view s) k ∷ [])) one-more ∙ sym (from-snoc (recordOf (view s)) 1 i) ∙ ap (λ (k : ℕ). map (recordOf (view s)) (numbers k)) (sym (add-one i)))
-        in
-        let fits : at + 34 ≤ length out₀ = omega (arith, w .room, w .place) in
-        let laid = more out₀ (w .laid) next 34 (long s (i + 1)) fits here in
-        record {
-          full = w .full;
-          few = w .few;
-          within = omega arith;
-          place = omega (arith, w .place);
-          room = w .room;
-          kept = ap length (laid .whole) ∙ length-lay out₀ 0 (before ++ next) (omega (arith, laid .ends));
-          laid = record { whole = laid .whole ∙ ap (lay out₀ 0) joined; ends = ap length (sym joined) ∙ laid .ends };
-        }
-
-    pub recording-ends : tasks s ≤ i → out ≡ join (map (recordOf (view s)) (numbers (tasks s))) ++ drop (34 * tasks s) out₀
-    recording-ends h =
-        let e : i ≡ tasks s = omega (arith, w .within) in
-        laid-front out₀ (w .laid) (34 * tasks s) (omega (arith, w .place))
-        ∙ ap (λ (k : ℕ). join (map (recordOf (view s)) (numbers k)) ++ drop (34 * tasks s) out₀) e
+  pub next-record : {out₀ out : List ℕ} {at i : ℕ} → Recording out₀ s out at i → i < tasks s → {tail : List ℕ}
+      → tail ≡ written taskWidths (entries s i) ++ drop 34 (midOf at (length out - at) out) → Recording out₀ s (putMid at (length out - at) out tail) (at + 34) (i + 1)
+  next-record {i = i} w l e =
+      let entered = ap (λ (vs : List ℕ). firstRecords s i ++ written taskWidths vs) (task-entries s (w .full) (w .few) i l) in
+      record {
+        full = w .full;
+        few = w .few;
+        pieces = next-piece (w .pieces) l (written taskWidths (entries s i)) (length-written taskWidths (entries s i) refl) (more-records i ∙ entered) e;
+      }
 
 -- ---- the whole state
 
@@ -188,17 +162,17 @@ module _ (s : State) (full : Full s) (few : tasks s ≤ tasksMax) where
   -- the fixed part, and the records right after it
   pub state-written : (out out₁ tail : List ℕ) → lengthOf (tasks s) ≤ length out
       → out₁ ≡ written fixedWidths (s .table .m .0 ∷ s .table .n .0 ∷ s .clock .0 ∷ s .moves ∷ s .misses ∷ []) ++ drop 22 out
-      → tail ≡ join (map (recordOf (view s)) (numbers (tasks s))) ++ drop (34 * tasks s) (midOf 22 (length out₁ - 22) out₁)
+      → tail ≡ firstRecords s (tasks s) ++ drop (34 * tasks s) (midOf 22 (length out₁ - 22) out₁)
       → putMid 22 (length out₁ - 22) out₁ tail ≡ store (view s) ++ drop (lengthOf (tasks s)) out
   unfolding store
   state-written out out₁ tail room fixed-is rest-is =
       let n : ℕ = tasks s in
       let fixed : List ℕ = written fixedWidths (fixedOf (view s)) in
-      let rest : List ℕ = join (map (recordOf (view s)) (numbers n)) in
-      let records : length rest ≡ 34 * n = length-records (recordOf (view s)) 34 (long s) 1 n in
+      let rest : List ℕ = firstRecords s n in
+      let records : length rest ≡ 34 * n = length-records (recordOf (view s)) 34 (λ i. length-written taskWidths (taskOf (view s) i) refl) 1 n in
       let front : out₁ ≡ fixed ++ drop 22 out = fixed-is ∙ ap (λ (vs : List ℕ). written fixedWidths vs ++ drop 22 out) (sym fixed-numbers) in
       let one = first out fixed 22 (length-written fixedWidths (fixedOf (view s)) refl) front in
-      let whole : fixed ++ rest ≡ store (view s) = ap (λ (k : ℕ). fixed ++ join (map (recordOf (view s)) (numbers k))) (sym sizes) in
+      let whole : fixed ++ rest ≡ store (view s) = ap (λ (k : ℕ). fixed ++ firstRecords s k) (sym sizes) in
       laid-front out (more out one rest (34 * n) records (omega arith) rest-is) (lengthOf n) (omega arith)
       ∙ ap (λ (l : List ℕ). l ++ drop (lengthOf n) out) whole
 

@@ -1,17 +1,19 @@
 -- `digits::write_field` meets its contract: the field of what is left of the number, before the bytes that are done, is the whole.
 use borrow.Author.Needs.{needs}
-use Rattle.laws.proofs.DigitLoops.{Writing, writing-starts, writing-goes-on, writing-ends}
+use Rattle.laws.proofs.Backwards.{Writing, writing-starts, writing-goes-on, writing-ends}
+use Rattle.laws.specs.Digits.{field}
+use Rattle.laws.proofs.DigitLoops.{field-places}
 use Rattle.digits.proofs.write_field.Statement.{statement}
 use Rattle.digits.proofs.write_field.Tie as tie
 
 abbrev Inv-loop : tie.InvT-loop
-Inv-loop out₀ width v rest₀ i₀ out rest i = Writing out₀ width v out rest i
+Inv-loop out₀ width v rest₀ i₀ out rest i = Writing field out₀ width v out rest i
 
 abbrev μ-loop : tie.MeasureT-loop
 μ-loop out₀ width v rest₀ i₀ out rest i = i
 
 loop-holds : tie.Need-loop-holds Inv-loop μ-loop
-loop-holds c = writing-starts _ _ _ (c .before .pre)
+loop-holds c = writing-starts (c .before .pre)
 
 sub-i : tie.Need-sub-i Inv-loop μ-loop
 sub-i c = search needs
@@ -28,13 +30,13 @@ loop-less c = search needs
 loop-again : tie.Need-loop-again Inv-loop μ-loop
 loop-again c =
     let t = c .before in
-    rw (c .low .ensures) (writing-goes-on _ _ _ _ _ _ (t .before .loop .inv) (t .loop-test .taken))
+    rw (c .low .ensures) (writing-goes-on field-places (t .before .loop .inv) (t .loop-test .taken))
 
 same-length : tie.Need-same-length Inv-loop μ-loop
 same-length c = c .before .loop .inv .kept
 
 returns : tie.Need-returns Inv-loop μ-loop
-returns c = writing-ends _ _ _ _ _ _ (c .before .loop .inv) (c .loop-test .left)
+returns c = writing-ends field-places (c .before .loop .inv) (c .loop-test .left)
 
 pub write-field-spec : {M : Type 1} → statement M
 write-field-spec =

@@ -1,17 +1,19 @@
 -- `stored::bytes::write_bytes` meets its contract: what is left of the number, before the bytes that are done, is the whole.
 use borrow.Author.Needs.{needs}
-use Rattle.stored.proofs.Loops.{Writing, writing-starts, writing-goes-on, writing-ends}
+use Rattle.laws.proofs.Backwards.{Writing, writing-starts, writing-goes-on, writing-ends}
+use Rattle.stored.specs.Layout.{bytesOf}
+use Rattle.stored.proofs.Loops.{byte-places}
 use Rattle.stored.proofs.bytes.write_bytes.Statement.{statement}
 use Rattle.stored.proofs.bytes.write_bytes.Tie as tie
 
 abbrev Inv-loop : tie.InvT-loop
-Inv-loop out₀ width v rest₀ i₀ out rest i = Writing out₀ width v out rest i
+Inv-loop out₀ width v rest₀ i₀ out rest i = Writing bytesOf out₀ width v out rest i
 
 abbrev μ-loop : tie.MeasureT-loop
 μ-loop out₀ width v rest₀ i₀ out rest i = i
 
 loop-holds : tie.Need-loop-holds Inv-loop μ-loop
-loop-holds c = writing-starts _ _ _ (c .before .pre)
+loop-holds c = writing-starts (c .before .pre)
 
 sub-i : tie.Need-sub-i Inv-loop μ-loop
 sub-i c = search needs
@@ -28,13 +30,13 @@ loop-less c = search needs
 loop-again : tie.Need-loop-again Inv-loop μ-loop
 loop-again c =
     let t = c .before in
-    rw (c .low .ensures) (writing-goes-on _ _ _ _ _ _ (t .before .loop .inv) (t .loop-test .taken))
+    rw (c .low .ensures) (writing-goes-on byte-places (t .before .loop .inv) (t .loop-test .taken))
 
 same-length : tie.Need-same-length Inv-loop μ-loop
 same-length c = c .before .loop .inv .kept
 
 returns : tie.Need-returns Inv-loop μ-loop
-returns c = writing-ends _ _ _ _ _ _ (c .before .loop .inv) (c .loop-test .left)
+returns c = writing-ends byte-places (c .before .loop .inv) (c .loop-test .left)
 
 pub write-bytes-spec : {M : Type 1} → statement M
 write-bytes-spec =

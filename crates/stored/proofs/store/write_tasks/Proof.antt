@@ -1,9 +1,10 @@
 -- `stored::store::write_tasks` meets its contract: so far the records of the first tasks stand at the front.
 use Prim.Native.Nat.{_-_}
 use native.Mathlib.Omega.{arith}
-use denote.Ref.{now}
+use mathlib.Core.Path.{refl}
 use Rattle.machine.proofs.Arrays.{state-full}
-use Rattle.stored.proofs.Storing.{Recording, recording-starts, recording-room, recording-goes-on, recording-ends}
+use Rattle.reading_laws.proofs.Laying.{no-piece, piece-room, all-pieces}
+use Rattle.stored.proofs.Storing.{Recording, next-record}
 use borrow.Author.Needs.{needs}
 use Rattle.stored.proofs.store.write_tasks.Statement.{statement}
 use Rattle.stored.proofs.store.write_tasks.Tie as tie
@@ -20,7 +21,7 @@ cast-n c = omega arith
 loop-holds : tie.Need-loop-holds Inv-loop μ-loop
 loop-holds c =
     let start = c .before .before in
-    recording-starts (now (start .args .out)) (start .args .t2) (state-full (start .args .t2) _ (start .good .1 .0)) (start .pre)
+    record { full = state-full (start .args .t2) _ (start .good .1 .0); few = start .pre .few; pieces = no-piece refl (start .pre .room) }
 
 sub-write-task : tie.Need-sub-write-task Inv-loop μ-loop
 sub-write-task c = omega arith
@@ -64,7 +65,7 @@ element-copy-out-write-task-6 c = omega arith
 write-task-requires : tie.Need-write-task-requires Inv-loop μ-loop
 write-task-requires c κs =
     let t = c .before .before in
-    recording-room _ _ _ _ _ (t .before .loop .inv) (t .loop-test .taken)
+    piece-room (t .before .loop .inv .pieces) (t .loop-test .taken)
 
 add-at : tie.Need-add-at Inv-loop μ-loop
 add-at c = omega arith
@@ -79,13 +80,13 @@ loop-again : tie.Need-loop-again Inv-loop μ-loop
 loop-again c =
     let written = c .before .before in
     let t = written .before .before .before in
-    recording-goes-on _ _ _ _ _ (t .before .loop .inv) (t .loop-test .taken) _ (written .write-task .ensures)
+    next-record _ (t .before .loop .inv) (t .loop-test .taken) (written .write-task .ensures)
 
 same-length : tie.Need-same-length Inv-loop μ-loop
-same-length c = c .before .loop .inv .kept
+same-length c = c .before .loop .inv .pieces .kept
 
 returns : tie.Need-returns Inv-loop μ-loop
-returns c = recording-ends _ _ _ _ _ (c .before .loop .inv) (c .loop-test .left)
+returns c = all-pieces (c .before .loop .inv .pieces) (c .loop-test .left)
 
 pub write-tasks-spec : {M : Type 1} → statement M
 write-tasks-spec =

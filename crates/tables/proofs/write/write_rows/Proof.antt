@@ -1,16 +1,17 @@
 -- `tables::write::write_rows` meets its contract: the lines that are written stand at the front, one right after the other.
 use Prim.Native.Nat.{_-_}
-use mathlib.Core.Path.{_≡_, sym, _∙_}
+use mathlib.Core.Path.{_≡_, refl, sym, _∙_}
 use borrow.Author.Needs.{needs}
 use lib.ListN.{length}
+use Rattle.reading_laws.proofs.Laying.{Pieces, no-piece, piece-room}
 use Rattle.tables.specs.Views.{view}
 use Rattle.tables.proofs.Views.{table-full, length-view}
-use Rattle.tables.proofs.Writes.{WritingRows, writing-starts, writing-room, writing-goes-on, writing-ends}
+use Rattle.tables.proofs.Writes.{firstLines, next-line, lines-written}
 use Rattle.tables.proofs.write.write_rows.Statement.{statement}
 use Rattle.tables.proofs.write.write_rows.Tie as tie
 
 abbrev Inv-loop : tie.InvT-loop
-Inv-loop out₀ table n at₀ i₀ out at i = WritingRows out₀ table out at i
+Inv-loop out₀ table n at₀ i₀ out at i = Pieces (firstLines table) 11 (length (view table .rows)) out₀ out at i
 
 abbrev μ-loop : tie.MeasureT-loop
 μ-loop out₀ table n at₀ i₀ out at i = n - i
@@ -25,7 +26,7 @@ rows-of-requires : tie.Need-rows-of-requires Inv-loop μ-loop
 rows-of-requires c κs = search needs
 
 loop-holds : tie.Need-loop-holds Inv-loop μ-loop
-loop-holds c = writing-starts _ _ (c .before .before .before .pre)
+loop-holds c = no-piece refl (c .before .before .before .pre)
 
 sub-write-pair : tie.Need-sub-write-pair Inv-loop μ-loop
 sub-write-pair c = search needs
@@ -51,7 +52,7 @@ element-copy-out-write-pair-2 c = search needs
 write-pair-requires : tie.Need-write-pair-requires Inv-loop μ-loop
 write-pair-requires c κs =
     let turn = c .before in
-    writing-room _ _ _ _ _ (turn .before .loop .inv) (rw (← count (turn .before)) (turn .loop-test .taken))
+    piece-room (turn .before .loop .inv) (rw (← count (turn .before)) (turn .loop-test .taken))
 
 add-at : tie.Need-add-at Inv-loop μ-loop
 add-at c = search needs
@@ -65,13 +66,13 @@ loop-less c = search needs
 loop-again : tie.Need-loop-again Inv-loop μ-loop
 loop-again c =
     let turn = c .before .before .before .before in
-    writing-goes-on _ _ _ _ _ (turn .before .loop .inv) (rw (← count (turn .before)) (turn .loop-test .taken)) _ (c .before .before .write-pair .ensures)
+    next-line _ (turn .before .loop .inv) (rw (← count (turn .before)) (turn .loop-test .taken)) (c .before .before .write-pair .ensures)
 
 same-length : tie.Need-same-length Inv-loop μ-loop
 same-length c = c .before .loop .inv .kept
 
 returns : tie.Need-returns Inv-loop μ-loop
-returns c = writing-ends _ _ _ _ _ (c .before .loop .inv) (rw (← count (c .before)) (c .loop-test .left))
+returns c = lines-written _ (c .before .loop .inv) (rw (← count (c .before)) (c .loop-test .left))
 
 pub write-rows-spec : {M : Type 1} → statement M
 write-rows-spec =
