@@ -2,10 +2,11 @@
 ghost use mathlib.Core.Path.{_≡_};
 ghost use mathlib.Core.Bool.{cond};
 ghost use mathlib.Core.List.{_++_};
-ghost use Prim.Native.Nat.{_%_, _≤_, _<_};
+ghost use Prim.Native.Nat.{_+_, _%_, _≤_, _<_};
 ghost use lib.Dec.{ltb};
 ghost use lib.ListN.{length, take, drop};
 ghost use Rattle.laws.specs.Digits.{digit as digitOf, digitValue, value, field};
+ghost use Rattle.rules.specs.Answers.{lay};
 ghost use Rattle.digits.specs.Answers.{digitAnswer, fieldAnswer, Within};
 
 // What a byte stands for.
@@ -84,7 +85,7 @@ fn low(v: u64) -> u8
 }
 
 // The first `width` bytes become v in so many digits; nothing after them differs.
-pub fn write_field(out: &mut [u8], width: usize, v: u64)
+fn write_digits(out: &mut [u8], width: usize, v: u64)
     requires { ⌜ width ≤ length (now out) ⌝ }
     ensures { λ r. ⌜ now (out .exit) ≡ field width v ++ drop width (now (out .entry)) ⌝ }
 {
@@ -95,4 +96,12 @@ pub fn write_field(out: &mut [u8], width: usize, v: u64)
         out[i] = low(rest);
         rest = rest / 16;
     }
+}
+
+// The `width` bytes from a place on become v in so many digits; no other byte differs.
+pub fn write_field(out: &mut [u8], at: usize, width: usize, v: u64)
+    requires { ⌜ at + width ≤ length (now out) ⌝ }
+    ensures { λ r. ⌜ now (out .exit) ≡ lay (now (out .entry)) at (field width v) ⌝ }
+{
+    write_digits(&mut out[at..], width, v);
 }

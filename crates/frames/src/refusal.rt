@@ -10,6 +10,6 @@ pub fn write_refusal(out: &mut [u8], number: u8, line: u32)
     ensures { λ r. ⌜ now (out .exit) ≡ frame refusal (number ∷ line ∷ []) ++ drop 9 (now (out .entry)) ⌝ }
 {
     let head = 0x1f * 256 + number as u64;
-    digits::write_field(out, 8, head * 65536 + line as u64);
+    digits::write_field(out, 0, 8, head * 65536 + line as u64);
     out[8] = 10;
 }

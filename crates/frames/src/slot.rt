@@ -13,10 +13,10 @@ pub fn write_slot(out: &mut [u8], slot: u32, cores: &[u8], moves: u32, misses: u
     let end = 2 * cores.len() + 10;
     let last = end + 2;
     let feed = end + 4;
-    digits::write_field(out, 2, 0x13);
-    digits::write_field(&mut out[2..], 8, slot as u64);
+    digits::write_field(out, 0, 2, 0x13);
+    digits::write_field(out, 2, 8, slot as u64);
     crate::pairs::write_pairs(&mut out[10..], cores);
-    digits::write_field(&mut out[end..], 2, moves as u64);
-    digits::write_field(&mut out[last..], 2, misses as u64);
+    digits::write_field(out, end, 2, moves as u64);
+    digits::write_field(out, last, 2, misses as u64);
     out[feed] = 10;
 }

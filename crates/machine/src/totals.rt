@@ -20,10 +20,10 @@ fn write_frame(out: &mut [u8], moves: u64, misses: u64, dropped: u64)
     requires { ⌜ 51 ≤ length (now out) ⌝ }
     ensures { λ _. ⌜ now (out .exit) ≡ frame totals (moves ∷ misses ∷ dropped ∷ []) ++ drop 51 (now (out .entry)) ⌝ }
 {
-    digits::write_field(out, 2, 0x14);
-    digits::write_field(&mut out[2..], 16, moves);
-    digits::write_field(&mut out[18..], 16, misses);
-    digits::write_field(&mut out[34..], 16, dropped);
+    digits::write_field(out, 0, 2, 0x14);
+    digits::write_field(out, 2, 16, moves);
+    digits::write_field(out, 18, 16, misses);
+    digits::write_field(out, 34, 16, dropped);
     out[50] = 10;
 }
 

@@ -1,5 +1,4 @@
--- A text laid at the front of a buffer, piece by piece, each through the lent tail: a line with its line feed, and any number of pieces of one
--- length.
+-- A text laid at the front of a buffer, piece by piece: a line with its line feed, and any number of pieces of one length.
 use Prim.Native.Nat.{ℕ, _+_, _-_, _*_, _≤_, _<_, zero-le}
 use mathlib.Core.Path.{_≡_, refl, sym, ap, _∙_}
 use mathlib.Core.List.{List, [], _∷_, _++_}
@@ -7,9 +6,11 @@ use native.Mathlib.Nat.{mul-le-mul-left}
 use native.Mathlib.Omega.{arith}
 use borrow.Rule.Slice.PartMut.{midOf, putMid}
 use lib.ListN.{length, drop, set, length-append, length-take, length-drop}
+use Rattle.laws.specs.Digits.{field}
+use Rattle.laws.proofs.Digits.{length-field}
 use Rattle.rules.specs.Answers.{lay}
 use Rattle.rules.specs.Frames.{lineFeed}
-use Rattle.reading_laws.proofs.Lays.{length-lay, lay-front, laid-on, laid-byte}
+use Rattle.reading_laws.proofs.Lays.{length-lay, lay-front, laid-on, laid-next, laid-byte}
 
 -- so far a text of some length was laid
 pub record Laid (out text now : List ℕ) (end : ℕ) : Type 0 where
@@ -17,18 +18,30 @@ pub record Laid (out text now : List ℕ) (end : ℕ) : Type 0 where
   pub ends : length text ≡ end
 
 module _ (out : List ℕ) where
+  -- none yet
+  pub nothing : Laid out [] out 0
+  nothing = record { whole = sym (lay-front out []); ends = refl }
+
   -- the first piece
   pub first : {now : List ℕ} (text : List ℕ) (n : ℕ) → length text ≡ n → now ≡ text ++ drop n out → Laid out text now n
   first text n len e = record { whole = e ∙ rw (lay-front out text, len); ends = len }
 
   module _ {text now : List ℕ} {end : ℕ} (laid : Laid out text now end) where
-    -- one more
+    -- one more, through the lent tail
     pub more : {tail : List ℕ} (next : List ℕ) (n : ℕ) → length next ≡ n → end + n ≤ length out
         → tail ≡ next ++ drop n (midOf end (length now - end) now) → Laid out (text ++ next) (putMid end (length now - end) now tail) (end + n)
     more {tail} next n len room e =
         record {
           whole = laid-on out 0 text now (laid .whole) end (omega (arith, laid .ends)) n next tail len room e;
           ends = length-append text next ∙ omega (arith, laid .ends);
+        }
+
+    -- a field more, written into its place
+    pub field-more : {now′ : List ℕ} (w v : ℕ) → end + w ≤ length out → now′ ≡ lay now end (field w v) → Laid out (text ++ field w v) now′ (end + w)
+    field-more w v room e =
+        record {
+          whole = e ∙ laid-next out 0 text now (laid .whole) end (omega (arith, laid .ends)) (field w v) (omega (arith, length-field w v));
+          ends = length-append text (field w v) ∙ omega (arith, laid .ends, length-field w v);
         }
 
     -- where it ends, said otherwise

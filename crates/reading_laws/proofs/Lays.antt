@@ -65,19 +65,18 @@ lay-front out text = rw (zero-add (length text))
 
 -- a text has been laid into a buffer from a place on, and the next one goes to where it ends
 module _ (out : List ℕ) (place : ℕ) (text out′ : List ℕ) (laid : out′ ≡ lay out place text) (end : ℕ) (ends : place + length text ≡ end) where
+  long : end ≤ length out → length out′ ≡ length out
+  long fits = ap length laid ∙ length-lay out place text (omega arith)
+
+  -- in its place
+  pub laid-next : (next : List ℕ) → end + length next ≤ length out → lay out′ end next ≡ lay out place (text ++ next)
+  laid-next next fits = ap (λ (o : List ℕ). lay o end next) laid ∙ rw (← ends) (lay-more out place (length text) text next refl (omega arith))
+
   -- through the lent tail
   pub laid-on : (n : ℕ) (next tail : List ℕ) → length next ≡ n → end + n ≤ length out
       → tail ≡ next ++ drop n (take (length out′ - end) (drop end out′)) → putMid end (length out′ - end) out′ tail ≡ lay out place (text ++ next)
-  laid-on n next tail len fits e =
-      let long : length out′ ≡ length out = ap length laid ∙ length-lay out place text (omega arith) in
-      lay-lent out′ end n next tail len (omega arith) e
-      ∙ ap (λ (o : List ℕ). lay o end next) laid
-      ∙ rw (← ends) (lay-more out place (length text) text next refl (omega arith))
+  laid-on n next tail len fits e = lay-lent out′ end n next tail len (omega (arith, long (omega arith))) e ∙ laid-next next (omega arith)
 
   -- one byte
   pub laid-byte : (b : ℕ) → end < length out → set out′ end b ≡ lay out place (text ++ (b ∷ []))
-  laid-byte b h =
-      let long : length out′ ≡ length out = ap length laid ∙ length-lay out place text (omega arith) in
-      lay-byte out′ end b (omega arith)
-      ∙ ap (λ (o : List ℕ). lay o end (b ∷ [])) laid
-      ∙ rw (← ends) (lay-more out place (length text) text (b ∷ []) refl (omega arith))
+  laid-byte b h = lay-byte out′ end b (omega (arith, long (omega arith))) ∙ laid-next (b ∷ []) (omega arith)

@@ -62,8 +62,8 @@ pub(crate) fn write_pair(out: &mut [u8], kind: u64, width: usize, a: u32, b: u32
 {
     let second = 2 + width;
     let feed = 2 + width + width;
-    digits::write_field(out, 2, kind);
-    digits::write_field(&mut out[2..], width, a as u64);
-    digits::write_field(&mut out[second..], width, b as u64);
+    digits::write_field(out, 0, 2, kind);
+    digits::write_field(out, 2, width, a as u64);
+    digits::write_field(out, second, width, b as u64);
     out[feed] = LINE_FEED;
 }

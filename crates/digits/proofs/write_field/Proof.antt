@@ -1,54 +1,41 @@
--- `digits::write_field` meets its contract: the field of what is left of the number, before the bytes that are done, is the whole.
+-- `digits::write_field` meets its contract: the digits are written at the front of the lent tail.
+use denote.Ref.{now}
+use native.Mathlib.Omega.{arith}
 use borrow.Author.Needs.{needs}
-use Rattle.laws.proofs.Backwards.{Writing, writing-starts, writing-goes-on, writing-ends}
 use Rattle.laws.specs.Digits.{field}
-use Rattle.laws.proofs.DigitLoops.{field-places}
+use Rattle.laws.proofs.Digits.{length-field}
+use Rattle.reading_laws.proofs.Lays.{lay-lent}
 use Rattle.digits.proofs.write_field.Statement.{statement}
 use Rattle.digits.proofs.write_field.Tie as tie
 
-abbrev Inv-loop : tie.InvT-loop
-Inv-loop out₀ width v rest₀ i₀ out rest i = Writing field out₀ width v out rest i
+sub-write-digits : tie.Need-sub-write-digits
+sub-write-digits c = search needs
 
-abbrev μ-loop : tie.MeasureT-loop
-μ-loop out₀ width v rest₀ i₀ out rest i = i
+part-write-digits-start : tie.Need-part-write-digits-start
+part-write-digits-start c = search needs
 
-loop-holds : tie.Need-loop-holds Inv-loop μ-loop
-loop-holds c = writing-starts (c .before .pre)
+part-write-digits-end : tie.Need-part-write-digits-end
+part-write-digits-end c = search needs
 
-sub-i : tie.Need-sub-i Inv-loop μ-loop
-sub-i c = search needs
+write-digits-requires : tie.Need-write-digits-requires
+write-digits-requires c κs = search needs
 
-low-requires : tie.Need-low-requires Inv-loop μ-loop
-low-requires c κs = search needs
+same-length : tie.Need-same-length
+same-length c = search needs
 
-slice-write-out : tie.Need-slice-write-out Inv-loop μ-loop
-slice-write-out c = search needs
-
-loop-less : tie.Need-loop-less Inv-loop μ-loop
-loop-less c = search needs
-
-loop-again : tie.Need-loop-again Inv-loop μ-loop
-loop-again c =
-    let t = c .before in
-    rw (c .low .ensures) (writing-goes-on field-places (t .before .loop .inv) (t .loop-test .taken))
-
-same-length : tie.Need-same-length Inv-loop μ-loop
-same-length c = c .before .loop .inv .kept
-
-returns : tie.Need-returns Inv-loop μ-loop
-returns c = writing-ends field-places (c .before .loop .inv) (c .loop-test .left)
+returns : tie.Need-returns
+returns c =
+    let start = c .before .before .before .before .before in
+    let a = start .args in
+    lay-lent (now (a .out)) (a .at) (a .width) (field (a .width) (a .v)) _ (length-field (a .width) (a .v)) (omega arith) (c .before .before .write-digits .ensures)
 
 pub write-field-spec : {M : Type 1} → statement M
 write-field-spec =
     tie.close
     (tie.spec
-    Inv-loop
-    μ-loop
-    loop-holds
-    sub-i
-    low-requires
-    slice-write-out
-    loop-less
-    loop-again
+    sub-write-digits
+    part-write-digits-start
+    part-write-digits-end
+    write-digits-requires
     same-length
     returns)

@@ -1,9 +1,8 @@
 -- `frames::refusal::write_refusal` meets its contract.
-use Prim.Native.Nat.{ℕ}
-use mathlib.Core.Path.{ap, _∙_}
-use mathlib.Core.List.{List}
-use lib.ListN.{set}
-use Rattle.frames.proofs.RefusalFrame.{refusal-written}
+use denote.Ref.{now}
+use native.Mathlib.Omega.{arith}
+use Rattle.reading_laws.proofs.Laying.{nothing, field-more, fed}
+use Rattle.frames.proofs.RefusalFrame.{joined, refusal-parts}
 use borrow.Author.Needs.{needs}
 use Rattle.frames.proofs.refusal.write_refusal.Statement.{statement}
 use Rattle.frames.proofs.refusal.write_refusal.Tie as tie
@@ -32,8 +31,10 @@ same-length c = search needs
 returns : tie.Need-returns
 returns c =
     let start = c .before .before .before .before .before in
-    ap (λ (l : List ℕ). set l 8 10) (c .before .before .write-field .ensures)
-    ∙ refusal-written (start .args .number) (start .args .line) (start .pre .1) (start .fits .number .fits) (start .args .out .now) (start .pre .0)
+    let a = start .args in
+    let out = now (a .out) in
+    let all = field-more out (nothing out) 8 (joined (a .number) (a .line)) (omega arith) (c .before .before .write-field .ensures) in
+    rw (refusal-parts (a .number) (a .line) (start .pre .1) (start .fits .number .fits)) (fed out all 9 (omega arith) (omega arith))
 
 pub write-refusal-spec : {M : Type 1} → statement M
 write-refusal-spec =

@@ -3,11 +3,9 @@ use Prim.Native.Nat.{_+_, _*_}
 use native.Mathlib.Omega.{arith}
 use lib.ListN.{length}
 use denote.Ref.{now}
-use Rattle.laws.specs.Digits.{field}
-use Rattle.laws.proofs.Digits.{length-field}
 use Rattle.rules.specs.Runs.{slotLine}
 use Rattle.slot_laws.proofs.Lengths.{length-slotLine}
-use Rattle.reading_laws.proofs.Laying.{first, more, ends-at, fed, line-kept}
+use Rattle.reading_laws.proofs.Laying.{nothing, field-more, more, ends-at, fed, line-kept}
 use Rattle.frames.specs.Pairs.{pairs}
 use Rattle.frames.specs.Slots.{shownAs}
 use Rattle.frames.proofs.PairLoop.{length-pairs}
@@ -31,15 +29,6 @@ add-feed c = search needs
 write-field-requires : tie.Need-write-field-requires
 write-field-requires c κs = search needs
 
-sub-write-field : tie.Need-sub-write-field
-sub-write-field c = search needs
-
-part-write-field-start : tie.Need-part-write-field-start
-part-write-field-start c = search needs
-
-part-write-field-end : tie.Need-part-write-field-end
-part-write-field-end c = search needs
-
 write-field-requires-2 : tie.Need-write-field-requires-2
 write-field-requires-2 c κs = search needs
 
@@ -55,26 +44,8 @@ part-write-pairs-end c = search needs
 write-pairs-requires : tie.Need-write-pairs-requires
 write-pairs-requires c κs = search needs
 
-sub-write-field-2 : tie.Need-sub-write-field-2
-sub-write-field-2 c = search needs
-
-part-write-field-start-2 : tie.Need-part-write-field-start-2
-part-write-field-start-2 c = search needs
-
-part-write-field-end-2 : tie.Need-part-write-field-end-2
-part-write-field-end-2 c = search needs
-
 write-field-requires-3 : tie.Need-write-field-requires-3
 write-field-requires-3 c κs = search needs
-
-sub-write-field-3 : tie.Need-sub-write-field-3
-sub-write-field-3 c = search needs
-
-part-write-field-start-3 : tie.Need-part-write-field-start-3
-part-write-field-start-3 c = search needs
-
-part-write-field-end-3 : tie.Need-part-write-field-end-3
-part-write-field-end-3 c = search needs
 
 write-field-requires-4 : tie.Need-write-field-requires-4
 write-field-requires-4 c κs = search needs
@@ -93,12 +64,12 @@ returns c =
     let a = start .args in
     let out = now (a .out) in
     let cores = now (a .cores) in
-    let one = first out (field 2 0x13) 2 (length-field 2 0x13) (begun .write-field .ensures) in
-    let two = more out one (field 8 (a .slot)) 8 (length-field 8 (a .slot)) (omega arith) (second .write-field2 .ensures) in
+    let one = field-more out (nothing out) 2 0x13 (omega arith) (begun .write-field .ensures) in
+    let two = field-more out one 8 (a .slot) (omega arith) (second .write-field2 .ensures) in
     let three = more out two (pairs cores) (2 * length cores) (length-pairs cores) (omega arith) (third .write-pairs .ensures) in
     let end = ends-at out three (2 * length cores + 10) (omega arith) in
-    let four = more out end (field 2 (a .moves)) 2 (length-field 2 (a .moves)) (omega arith) (fourth .write-field3 .ensures) in
-    let five = more out four (field 2 (a .misses)) 2 (length-field 2 (a .misses)) (omega arith) (fifth .write-field4 .ensures) in
+    let four = field-more out end 2 (a .moves) (omega arith) (fourth .write-field3 .ensures) in
+    let five = field-more out four 2 (a .misses) (omega arith) (fifth .write-field4 .ensures) in
     let all = ends-at out five (2 * length cores + 10 + 4) (omega arith) in
     rw (slot-parts (a .slot) cores (a .moves) (a .misses)) (fed out all (2 * length cores + 15) (omega arith) (omega arith))
 
@@ -118,21 +89,12 @@ write-slot-spec =
     add-last
     add-feed
     write-field-requires
-    sub-write-field
-    part-write-field-start
-    part-write-field-end
     write-field-requires-2
     sub-write-pairs
     part-write-pairs-start
     part-write-pairs-end
     write-pairs-requires
-    sub-write-field-2
-    part-write-field-start-2
-    part-write-field-end-2
     write-field-requires-3
-    sub-write-field-3
-    part-write-field-start-3
-    part-write-field-end-3
     write-field-requires-4
     slice-write-out
     same-length

@@ -4,13 +4,11 @@ use native.Mathlib.Omega.{arith}
 use denote.Ref.{now}
 use lib.ListN.{length}
 use borrow.Author.Needs.{needs}
-use Rattle.laws.specs.Digits.{field}
-use Rattle.laws.proofs.Digits.{length-field}
 use Rattle.frames.specs.Pairs.{pairs}
 use Rattle.frames.proofs.PairLoop.{length-pairs}
 use Rattle.rules.specs.Frames.{frame}
 use Rattle.rules.specs.Runs.{orderLine}
-use Rattle.reading_laws.proofs.Laying.{first, more, fed, line-kept}
+use Rattle.reading_laws.proofs.Laying.{nothing, field-more, more, fed, line-kept}
 use Rattle.verdicts.proofs.Pieces.{length-orderLine}
 use Rattle.verdicts.proofs.lines.write_order.Statement.{statement}
 use Rattle.verdicts.proofs.lines.write_order.Tie as tie
@@ -45,7 +43,7 @@ returns c =
     let start = c .before .before .before .before .before .before .before .before .before .before in
     let out = now (start .args .out) in
     let ranks = now (start .args .ranks) in
-    let one = first out (field 2 0x12) 2 (length-field 2 0x12) (c .before .before .before .before .before .before .write-field .ensures) in
+    let one = field-more out (nothing out) 2 0x12 (omega arith) (c .before .before .before .before .before .before .write-field .ensures) in
     let two = more out one (pairs ranks) (2 * length ranks) (length-pairs ranks) (omega arith) (c .before .before .write-pairs .ensures) in
     fed out two (2 * length ranks + 3) (omega arith) (omega arith)
 

@@ -2,26 +2,15 @@
 use native.Mathlib.Omega.{arith}
 use denote.Ref.{now}
 use borrow.Author.Needs.{needs}
-use Rattle.laws.specs.Digits.{field}
-use Rattle.laws.proofs.Digits.{length-field}
 use Rattle.rules.specs.Verdicts.{verdictByte}
 use Rattle.verdicts.specs.Lines.{verdictFrame}
-use Rattle.reading_laws.proofs.Laying.{first, more, fed, line-kept}
+use Rattle.reading_laws.proofs.Laying.{nothing, field-more, fed, line-kept}
 use Rattle.verdicts.proofs.Pieces.{length-verdict, verdict-parts}
 use Rattle.verdicts.proofs.lines.write_verdict.Statement.{statement}
 use Rattle.verdicts.proofs.lines.write_verdict.Tie as tie
 
 write-field-requires : tie.Need-write-field-requires
 write-field-requires c κs = search needs
-
-sub-write-field : tie.Need-sub-write-field
-sub-write-field c = search needs
-
-part-write-field-start : tie.Need-part-write-field-start
-part-write-field-start c = search needs
-
-part-write-field-end : tie.Need-part-write-field-end
-part-write-field-end c = search needs
 
 byte-requires : tie.Need-byte-requires
 byte-requires c κs = search needs
@@ -32,26 +21,8 @@ cast-write-field c = search needs
 write-field-requires-2 : tie.Need-write-field-requires-2
 write-field-requires-2 c κs = search needs
 
-sub-write-field-2 : tie.Need-sub-write-field-2
-sub-write-field-2 c = search needs
-
-part-write-field-start-2 : tie.Need-part-write-field-start-2
-part-write-field-start-2 c = search needs
-
-part-write-field-end-2 : tie.Need-part-write-field-end-2
-part-write-field-end-2 c = search needs
-
 write-field-requires-3 : tie.Need-write-field-requires-3
 write-field-requires-3 c κs = search needs
-
-sub-write-field-3 : tie.Need-sub-write-field-3
-sub-write-field-3 c = search needs
-
-part-write-field-start-3 : tie.Need-part-write-field-start-3
-part-write-field-start-3 c = search needs
-
-part-write-field-end-3 : tie.Need-part-write-field-end-3
-part-write-field-end-3 c = search needs
 
 write-field-requires-4 : tie.Need-write-field-requires-4
 write-field-requires-4 c κs = search needs
@@ -66,13 +37,14 @@ returns c =
     let second = third .before .before .before .before in
     let begun = second .before .before .before .before .before in
     let start = begun .before .before .before in
-    let out = now (start .args .out) in
+    let a = start .args in
+    let out = now (a .out) in
     let b = second .before .byte .result in
-    let one = first out (field 2 0x11) 2 (length-field 2 0x11) (begun .write-field .ensures) in
-    let two = more out one (field 2 b) 2 (length-field 2 b) (omega arith) (second .write-field2 .ensures) in
-    let three = more out two (field 2 (start .args .heavy)) 2 (length-field 2 (start .args .heavy)) (omega arith) (third .write-field3 .ensures) in
-    let four = more out three (field 8 (start .args .h)) 8 (length-field 8 (start .args .h)) (omega arith) (fourth .write-field4 .ensures) in
-    rw (← (second .before .byte .ensures), verdict-parts b (start .args .heavy) (start .args .h)) (fed out four 15 (omega arith) (omega arith))
+    let one = field-more out (nothing out) 2 0x11 (omega arith) (begun .write-field .ensures) in
+    let two = field-more out one 2 b (omega arith) (second .write-field2 .ensures) in
+    let three = field-more out two 2 (a .heavy) (omega arith) (third .write-field3 .ensures) in
+    let four = field-more out three 8 (a .h) (omega arith) (fourth .write-field4 .ensures) in
+    rw (← (second .before .byte .ensures), verdict-parts b (a .heavy) (a .h)) (fed out four 15 (omega arith) (omega arith))
 
 same-length : tie.Need-same-length
 same-length c =
@@ -85,19 +57,10 @@ write-verdict-spec =
     tie.close
     (tie.spec
     write-field-requires
-    sub-write-field
-    part-write-field-start
-    part-write-field-end
     byte-requires
     cast-write-field
     write-field-requires-2
-    sub-write-field-2
-    part-write-field-start-2
-    part-write-field-end-2
     write-field-requires-3
-    sub-write-field-3
-    part-write-field-start-3
-    part-write-field-end-3
     write-field-requires-4
     slice-write-out
     same-length
