@@ -5,7 +5,7 @@ use mathlib.Core.List.{List}
 use Rattle.rules.specs.Refusals.{Answer, taken, refused, andThen}
 use Rattle.rules.specs.Tables as Rules
 use Rattle.rules.specs.States.{State}
-use Rattle.tables.specs.Writes.{made}
+use Rattle.tables.specs.Writes.{made, wroteText}
 use Rattle.tables.specs.declared.write.WriteAnswer.{WriteAnswer}
 use Rattle.tables.proofs.Views.{view-pack}
 use Rattle.machine.specs.Views.{pack}
@@ -13,7 +13,6 @@ use Rattle.stored.specs.Layout.{load}
 use Rattle.stored.specs.Answers.{stateAnswer}
 use Rattle.stored.specs.declared.load.StateAnswer.{StateAnswer}
 use Rattle.reports.specs.Heads.{head}
-use Rattle.reports.specs.Written.{wroteText}
 use Rattle.capi.specs.Calls.{reply, replied, filled, laid, giveVerdict}
 use Rattle.capi.specs.Answers.{numbered, headOf}
 use Rattle.capi.proofs.Replying.{text-replied, refusal-replied}

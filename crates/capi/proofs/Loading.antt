@@ -12,7 +12,7 @@ use Rattle.rules.specs.Refusals.{Test, test, Answer, taken, refused, settle, an
 use Rattle.rules.specs.Tables.{size, headerTests, listTests, accepts}
 use Rattle.rules.specs.States.{State}
 use Rattle.rules.specs.Forms.{wellFormed}
-use Rattle.rules.specs.Answers.{lay, roomTest, stateTest}
+use Rattle.rules.specs.Answers.{stateTest}
 use Rattle.rules.specs.declared.refusal.Refusal.the-variants.{BadState}
 use Rattle.slot_laws.proofs.Forms.{formed-kept, accepts-of}
 use Rattle.machine.specs.Views.{view, pack, padded, formed}
@@ -20,12 +20,12 @@ use Rattle.machine.specs.Answers.{asked}
 use Rattle.machine.proofs.Packing.{view-pack}
 use Rattle.machine.proofs.Packed.{formed-pack, kept-sized, struct-formed}
 use Rattle.machine.proofs.Starting.{opened}
-use Rattle.machine.proofs.Asking.{formed-says, asked-ill}
+use Rattle.machine.proofs.Asking.{formed-says, asked-ill, text-well}
 use Rattle.stored.specs.Layout.{lengthOf, store, sizeIn, decoded, load}
 use Rattle.stored.specs.Answers.{noState, stateAnswer, storeState, storedState}
 use Rattle.stored.specs.declared.load.StateAnswer.{StateAnswer}
 use Rattle.stored.proofs.Round.{decoded-size}
-use Rattle.reports.specs.Written.{wroteText}
+use Rattle.tables.specs.Writes.{wroteText}
 use Rattle.capi.specs.Answers.{Judgeable}
 
 -- ---- the struct of a well-formed state
@@ -34,19 +34,14 @@ module _ (st : State) (w : T (wellFormed st)) where
   says : view (pack st) ≡ st
   says = view-pack st (kept-sized (formed-kept st w))
 
-  pub asked-packed : {A : Type 0} (ask : State → Answer A) → asked (pack st) ask ≡ ask st
+  asked-packed : {A : Type 0} (ask : State → Answer A) → asked (pack st) ask ≡ ask st
   unfolding asked
   asked-packed ask = rw (of-T (padded (pack st)) (formed-says (pack st) (struct-formed st w) .0), says)
 
-  -- the test of its form is passed
-  pub formed-passes : {A : Type 0} (tests : List Test) (a : A) → settle (stateTest st ∷ tests) a ≡ settle tests a
-  unfolding stateTest
-  formed-passes tests a = rw (of-T (wellFormed st) w)
-
   pub stored-packed : (out : List ℕ) (place : ℕ) → storedState (pack st) out place ≡ wroteText out place (store st)
-  unfolding storedState storeState wroteText
+  unfolding storedState storeState
   stored-packed out place =
-      rw (says, asked-packed (λ x. storeState x out place), formed-passes (roomTest out place (length (store st)) ∷ []) (lay out place (store st)))
+      sym (text-well (pack st) store out place (length (store (view (pack st)))) refl (struct-formed st w)) ∙ ap (λ (x : State). wroteText out place (store x)) says
 
 -- ---- bytes
 

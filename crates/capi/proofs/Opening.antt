@@ -19,7 +19,7 @@ use Rattle.reading_laws.proofs.Files.{written-read}
 use Rattle.slot_laws.proofs.Books.{fresh-formed}
 use Rattle.tables.specs.Views as Tables
 use Rattle.tables.specs.Views.{withoutTable, tableAnswer}
-use Rattle.tables.specs.Writes.{made}
+use Rattle.tables.specs.Writes.{made, wroteText}
 use Rattle.tables.specs.declared.table.Table as TableDeclared
 use Rattle.tables.specs.declared.table.Outcome.the-variants as outcome
 use Rattle.tables.specs.declared.table.TableAnswer.{TableAnswer}
@@ -32,7 +32,6 @@ use Rattle.machine.proofs.Starting.{opened}
 use Rattle.stored.specs.Layout.{store}
 use Rattle.stored.specs.Answers.{storedState}
 use Rattle.capi.specs.Calls.{reply, replied, filled, sized, laid, openTable, lineOf}
-use Rattle.reports.specs.Written.{wroteText}
 use Rattle.capi.specs.Answers.{numbered, lineIn, Startable, freshOf}
 use Rattle.capi.proofs.Replying.{text-replied, refusal-replied}
 use Rattle.capi.proofs.Loading.{stored-packed}

@@ -6,11 +6,10 @@ use lib.ListN.{length}
 use Rattle.rules.specs.Refusals.{Answer, taken, refused, settle}
 use Rattle.rules.specs.Answers.{lay, roomTest}
 use Rattle.rules.specs.declared.refusal.Refusal.{Refusal}
-use Rattle.tables.specs.Writes.{Wrote, made, wrote}
+use Rattle.tables.specs.Writes.{Wrote, made, wrote, wroteText}
 use Rattle.tables.specs.declared.write.WriteAnswer.{WriteAnswer}
 use Rattle.tables.specs.declared.write.WriteAnswer.the-variants.{Refused}
 use Rattle.capi.specs.Calls.{reply, replied, Filled, filled, sized, laid}
-use Rattle.reports.specs.Written.{wroteText}
 use Rattle.capi.specs.Answers.{numbered}
 
 -- the answer and the buffer, then the number and the size

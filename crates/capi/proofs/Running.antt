@@ -4,7 +4,6 @@ use mathlib.Core.Path.{_≡_, refl, sym, ap, _∙_}
 use mathlib.Core.Bool.{not}
 use mathlib.Core.List.{List, [], _∷_, append-nil}
 use native.Mathlib.Omega.{arith}
-use borrow.Author.Tests.{le-ltb}
 use lib.Dec.{T, ltb, nltb→le}
 use lib.ListN.{length}
 use lib.Seq.{drop-length}
@@ -25,7 +24,8 @@ use Rattle.slot_laws.proofs.Books.{after-formed}
 use Rattle.slot_laws.proofs.After.{after-table}
 use Rattle.slot_laws.proofs.Lengths.{length-slotLines}
 use Rattle.tables.specs.Views as Tables
-use Rattle.tables.specs.Writes.{Wrote, made, wrote}
+use Rattle.tables.proofs.Written.{text-laid}
+use Rattle.tables.specs.Writes.{Wrote, made}
 use Rattle.tables.specs.declared.write.WriteAnswer.{WriteAnswer}
 use Rattle.tables.specs.declared.write.WriteAnswer.the-variants.{Written}
 use Rattle.machine.specs.Views.{pack}
@@ -40,7 +40,6 @@ use Rattle.stored.specs.Answers.{stateAnswer, storedState}
 use Rattle.stored.specs.declared.load.StateAnswer.{StateAnswer}
 use Rattle.stored.proofs.Round.{length-store}
 use Rattle.capi.specs.Calls.{reply, replied, Run, run, runStored}
-use Rattle.reports.specs.Written.{wroteText}
 use Rattle.capi.proofs.Loading.{stored-packed, Loads, well, ill, loads, asked-loaded}
 
 -- ---- bytes stored over bytes of the same length
@@ -51,8 +50,7 @@ module _ (st : State) (w : T (wellFormed st)) (bs : List ℕ) (len : length (sto
 
   -- storing is not refused, and nothing of what stood there is left
   stored-over : storedState (pack st) bs 0 ≡ made (Written (length (store st))) (store st)
-  unfolding wroteText wrote roomTest
-  stored-over = stored-packed st w bs 0 ∙ rw (le-ltb (length bs) (0 + length (store st)) (omega arith), all-laid)
+  stored-over = stored-packed st w bs 0 ∙ text-laid bs 0 (store st) (length (store st)) refl (omega arith) ∙ ap (made (Written (length (store st)))) all-laid
 
 packed-m : (st : State) → pack st .table .m .0 ≡ st .table .m
 unfolding pack Tables.pack

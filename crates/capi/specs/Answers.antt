@@ -5,7 +5,7 @@ use mathlib.Core.List.{List}
 use Rattle.rules.specs.Refusals.{numberOf}
 use Rattle.rules.specs.States.{fresh}
 use Rattle.tables.specs.Views.{view}
-use Rattle.tables.specs.Writes.{Wrote, made}
+use Rattle.tables.specs.Writes.{Wrote, made, wroteText}
 use Rattle.tables.specs.declared.table.Table.{Table}
 use Rattle.tables.specs.declared.table.Outcome.{Outcome}
 use Rattle.tables.specs.declared.table.Outcome.the-variants as outcome
@@ -18,7 +18,6 @@ use Rattle.stored.specs.declared.load.Outcome as loadOutcome
 use Rattle.stored.specs.declared.load.Outcome.the-variants as loaded
 use Rattle.stored.specs.declared.load.StateAnswer.{StateAnswer}
 use Rattle.reports.specs.Heads.{head}
-use Rattle.reports.specs.Written.{wroteText}
 use Rattle.capi.specs.Calls.{Reply, reply}
 
 -- the number of an answer, and the size after it

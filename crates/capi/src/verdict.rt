@@ -10,11 +10,10 @@ use tables::table::Table;
 use tables::write::WriteAnswer;
 ghost use mathlib.Core.Path.{_≡_};
 ghost use Rattle.tables.specs.Views.{view};
-ghost use Rattle.tables.specs.Writes.{made};
+ghost use Rattle.tables.specs.Writes.{made, wroteText};
 ghost use Rattle.machine.specs.Tables.{Opened};
 ghost use Rattle.reports.specs.Heads.{head};
 ghost use Rattle.capi.specs.Calls.{reply, replied, filled, giveVerdict};
-ghost use Rattle.reports.specs.Written.{wroteText};
 ghost use Rattle.capi.specs.Answers.{Judgeable, headOf};
 
 // Both frames of a table, from a place of the buffer on.

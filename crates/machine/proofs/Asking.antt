@@ -1,14 +1,18 @@
 -- What is asked of a struct: the first test is that it is well formed.
-use mathlib.Core.Path.{_≡_, refl, subst}
+use Prim.Native.Nat.{ℕ}
+use mathlib.Core.Path.{_≡_, refl, sym, ap, _∙_, subst}
 use mathlib.Core.Bool.{Bool, true, false, cond, not, _&&_}
-use mathlib.Core.List.{List, _∷_}
+use mathlib.Core.List.{List, [], _∷_}
 use lib.Dec.{T}
+use lib.ListN.{length}
 use Rattle.laws.proofs.Tests.{to-T, and-left, and-right}
 use Rattle.rules.specs.Refusals.{Test, test, Answer, refused, settle}
 use Rattle.rules.specs.States as States
 use Rattle.rules.specs.Forms.{wellFormed}
-use Rattle.rules.specs.Answers.{stateTest}
+use Rattle.rules.specs.Answers.{lay, roomTest, stateTest}
 use Rattle.rules.specs.declared.refusal.Refusal.the-variants.{BadState}
+use Rattle.tables.specs.Writes.{made, wrote, wroteText}
+use Rattle.tables.specs.declared.write.WriteAnswer.the-variants.{Refused}
 use Rattle.machine.specs.declared.state.State.{State}
 use Rattle.machine.specs.Views.{view, padded, formed}
 use Rattle.machine.specs.Answers.{asked}
@@ -42,3 +46,26 @@ module _ {A : Type 0} (s : State) (tests : States.State → List Test) (value : 
   pub asked-well : formed s ≡ true → asked s (λ st. settle (stateTest st ∷ tests st) (value st)) ≡ settle (tests (view s)) (value (view s))
   unfolding formed asked stateTest
   asked-well e = well (padded s) (wellFormed (view s)) e
+
+-- ---- a text of the state, written into a buffer: 9, then 7
+
+module _ (s : State) (text : States.State → List ℕ) (out : List ℕ) (place : ℕ) where
+  abbrev tests : States.State → List Test
+  tests st = roomTest out place (length (text st)) ∷ []
+
+  abbrev filled : States.State → List ℕ
+  filled st = lay out place (text st)
+
+  abbrev written : Answer (List ℕ)
+  written = asked s (λ st. settle (stateTest st ∷ tests st) (filled st))
+
+  -- nothing is written for a struct that is not well formed
+  pub text-ill : (n : ℕ) → formed s ≡ false → made (Refused BadState) out ≡ wrote n out written
+  unfolding wrote
+  text-ill n e = sym (ap (wrote n out) (asked-ill s tests filled e))
+
+  -- for one that is, its text is written, where there is room
+  pub text-well : (n : ℕ) → length (text (view s)) ≡ n → formed s ≡ true → wroteText out place (text (view s)) ≡ wrote n out written
+  unfolding wroteText
+  text-well n long e =
+      ap (λ (k : ℕ). wrote k out (settle (tests (view s)) (filled (view s)))) long ∙ sym (ap (wrote n out) (asked-well s tests filled e))

@@ -1,13 +1,12 @@
 -- The totals: the units dropped, summed along the tasks, and the frame.
 use Prim.Native.Nat.{ℕ, suc, _+_, _-_, _^_, _≤_, _<_, zero-le}
-use mathlib.Core.Path.{_≡_, refl, sym, ap, _∙_}
+use mathlib.Core.Path.{_≡_, refl, ap, _∙_}
 use mathlib.Core.Bool.{true, false}
 use mathlib.Core.List.{List, [], _∷_, _++_, append-assoc, append-nil}
 use native.Mathlib.Nat.{mul-le-mul-right}
 use native.Mathlib.Omega.{arith}
-use borrow.Author.Tests.{lt-ltb, le-ltb}
-use borrow.Rule.Slice.PartMut.{putMid}
-use lib.ListN.{length, getD, take, drop, drop-of-length-le}
+use borrow.Rule.Slice.PartMut.{midOf, putMid}
+use lib.ListN.{length, getD, drop, drop-of-length-le}
 use Rattle.laws.specs.Lists.{sum}
 use Rattle.laws.specs.Digits.{field}
 use Rattle.laws.proofs.Walks.{sum-split, sum-most}
@@ -15,16 +14,14 @@ use Rattle.rules.specs.Limits.{tasksMax, clockMax}
 use Rattle.rules.specs.Rows as Rows
 use Rattle.rules.specs.Tables.{size, rowOf}
 use Rattle.rules.specs.Frames.{lineFeed, totals, fields, frame}
-use Rattle.rules.specs.Refusals.{Test}
-use Rattle.rules.specs.States as States
 use Rattle.rules.specs.Runs.{totalsLine}
-use Rattle.rules.specs.Answers.{lay, roomTest, writeTotals}
+use Rattle.rules.specs.Answers.{writeTotals}
 use Rattle.rules.specs.declared.refusal.Refusal.the-variants.{NoRoom, BadState}
 use Rattle.reading_laws.proofs.Frames.{length-frame}
-use Rattle.reading_laws.proofs.Lays.{lay-lent}
 use Rattle.slot_laws.proofs.Lengths.{length-totalsLine}
-use Rattle.tables.specs.Writes.{made, wrote}
+use Rattle.tables.specs.Writes.{made, wrote, wroteText}
 use Rattle.tables.specs.declared.write.WriteAnswer.the-variants.{Written, Refused}
+use Rattle.tables.proofs.Written.{text-short, text-written}
 use Rattle.machine.specs.Answers.{asked}
 use Rattle.slot_laws.proofs.Forms.{Kept, formed-kept, formed-clock}
 use Rattle.machine.specs.declared.state.State.{State}
@@ -32,7 +29,7 @@ use Rattle.machine.specs.Full.{Full}
 use Rattle.machine.specs.Views.{tasks, units, view, formed}
 use Rattle.machine.proofs.Viewing.{length-viewed, getD-viewed, size-view}
 use Rattle.machine.proofs.Packing.{padded-few}
-use Rattle.machine.proofs.Asking.{formed-says, asked-ill, asked-well}
+use Rattle.machine.proofs.Asking.{formed-says, text-ill, text-well}
 use Rattle.machine.proofs.Releasing.{releasedMax, released-most}
 
 -- ---- the units dropped
@@ -122,35 +119,25 @@ length-totals moves misses dropped = length-frame totals (moves ∷ misses ∷ d
 -- ---- the answer
 
 module _ (s : State) (out : List ℕ) (place : ℕ) where
-  -- the test of the room, after that of the state
-  abbrev tests : States.State → List Test
-  tests st = roomTest out place (length (totalsLine st)) ∷ []
-
-  -- the buffer with the line in it
-  abbrev lined : States.State → List ℕ
-  lined st = lay out place (totalsLine st)
-
   -- the state is not well formed
   pub totals-ill : formed s ≡ false → made (Refused BadState) out ≡ wrote 51 out (asked s (λ st. writeTotals st out place))
-  unfolding writeTotals wrote
-  totals-ill e = sym (ap (wrote 51 out) (asked-ill s tests lined e))
+  unfolding writeTotals
+  totals-ill e = text-ill s totalsLine out place 51 e
 
   module _ (ok : formed s ≡ true) where
-    -- the line has no room
+    -- the line is written, where there is room
+    line-for : wroteText out place (totalsLine (view s)) ≡ wrote 51 out (asked s (λ st. writeTotals st out place))
+    unfolding writeTotals
+    line-for = text-well s totalsLine out place 51 (length-totalsLine (view s)) ok
+
+    -- it has no room
     pub totals-short : length out < place + 51 → made (Refused NoRoom) out ≡ wrote 51 out (asked s (λ st. writeTotals st out place))
-    unfolding writeTotals wrote roomTest
-    totals-short h =
-        sym (ap (wrote 51 out) (asked-well s tests lined ok) ∙ rw (length-totalsLine (view s), lt-ltb (length out) (place + 51) h))
+    totals-short h = text-short out place (totalsLine (view s)) 51 (length-totalsLine (view s)) h ∙ line-for
 
     -- it has, and was written through the lent tail
     pub totals-written : place + 51 ≤ length out → (dropped : ℕ) → dropped ≡ sum (view s .dropped) → (tail : List ℕ)
-        → tail ≡ frame totals (s .moves ∷ s .misses ∷ dropped ∷ []) ++ drop 51 (take (length out - place) (drop place out))
+        → tail ≡ frame totals (s .moves ∷ s .misses ∷ dropped ∷ []) ++ drop 51 (midOf place (length out - place) out)
         → made (Written 51) (putMid place (length out - place) out tail) ≡ wrote 51 out (asked s (λ st. writeTotals st out place))
-    unfolding writeTotals wrote roomTest
     totals-written room dropped ed tail e =
         let line : frame totals (s .moves ∷ s .misses ∷ dropped ∷ []) ≡ totalsLine (view s) = unfold totalsLine view in (rw ed) in
-        let laid : putMid place (length out - place) out tail ≡ lay out place (totalsLine (view s)) =
-        lay-lent out place 51 (totalsLine (view s)) tail (length-totalsLine (view s)) (omega arith) (rw (← line) e)
-        in
-        ap (made (Written 51)) laid
-        ∙ sym (ap (wrote 51 out) (asked-well s tests lined ok) ∙ rw (length-totalsLine (view s), le-ltb (length out) (place + 51) room))
+        text-written out place (totalsLine (view s)) 51 (length-totalsLine (view s)) room tail (rw (← line) e) ∙ line-for

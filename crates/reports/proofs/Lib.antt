@@ -2,6 +2,5 @@ pub mod Heads
 pub mod Taking
 pub mod Texts
 pub mod Replies
-pub mod Written
 pub mod Reporting
 pub mod Unique

@@ -5,7 +5,7 @@ use mathlib.Core.Bool.{true, false}
 use mathlib.Core.Logic.{⊎-elim}
 use mathlib.Core.List.{List, _++_}
 use native.Mathlib.Omega.{arith}
-use borrow.Author.Tests.{ltb-true, ltb-false, le-ltb}
+use borrow.Author.Tests.{ltb-true, ltb-false}
 use borrow.Rule.Slice.PartMut.{putMid}
 use lib.Dec.{ltb}
 use lib.ListN.{length, take, drop, length-append}
@@ -16,7 +16,6 @@ use Rattle.rules.specs.Refusals.{Answer, taken, refused, numberOf}
 use Rattle.rules.specs.Tables as Rules
 use Rattle.rules.specs.Tables.{size}
 use Rattle.rules.specs.Files.{readFile}
-use Rattle.rules.specs.Answers.{roomTest}
 use Rattle.rules.specs.Program.{reply, program}
 use Rattle.rules.specs.declared.refusal.Refusal.{Refusal}
 use Rattle.rules.specs.declared.refusal.Refusal.the-variants.{NoRoom}
@@ -24,15 +23,14 @@ use Rattle.slot_laws.proofs.Forms.{Accepted, accepted}
 use Rattle.reading_laws.proofs.Lays.{lay-front}
 use Rattle.reading_laws.proofs.Files.{written-read}
 use Rattle.tables.specs.Views.{tableAnswer}
-use Rattle.tables.specs.Writes.{Wrote, made, wrote}
+use Rattle.tables.specs.Writes.{Wrote, made}
 use Rattle.tables.specs.declared.table.TableAnswer.{TableAnswer}
 use Rattle.tables.specs.declared.write.WriteAnswer.{WriteAnswer}
 use Rattle.tables.specs.declared.write.WriteAnswer.the-variants.{Written, Refused}
 use Rattle.reports.specs.Texts.{slotsOf}
-use Rattle.reports.specs.Written.{wroteText}
 use Rattle.reports.specs.Reports.{textMax, reportOf, Printed, replyTo}
 use Rattle.reports.proofs.Texts.{length-report, text-bound}
-use Rattle.reports.proofs.Written.{text-short, text-written}
+use Rattle.tables.proofs.Written.{text-short, text-laid, text-written}
 use Rattle.reports.proofs.Replies.{length-refusal, reply-answer}
 
 -- ---- the start of the input
@@ -89,10 +87,11 @@ program-short input = reply-short (take inputMax input) (readFile (take inputMax
 
 module _ (input out : List ℕ) (room : textMax ≤ length out) {r : WriteAnswer} {out′ : List ℕ} (made-so : made r out′ ≡ reportOf input out 0) where
   all-written : made r out′ ≡ made (Written (length (program input))) (program input ++ drop (length (program input)) out)
-  unfolding reportOf wroteText wrote roomTest
+  unfolding reportOf
   all-written =
-      let fits : 0 + length (program input) ≤ length out = omega (arith, program-short input) in
-      made-so ∙ rw (le-ltb (length out) (0 + length (program input)) fits) (ap (made (Written (length (program input)))) (lay-front out (program input)))
+      made-so
+      ∙ text-laid out 0 (program input) (length (program input)) refl (omega (arith, program-short input))
+      ∙ ap (made (Written (length (program input)))) (lay-front out (program input))
 
   answer-is : r ≡ Written (length (program input))
   answer-is = ap (λ (w : Wrote). w .answer) all-written

@@ -1,4 +1,3 @@
 pub mod Heads
 pub mod Texts
-pub mod Written
 pub mod Reports

@@ -8,12 +8,11 @@ use Rattle.rules.specs.Tables as Rules
 use Rattle.rules.specs.Files.{readFile}
 use Rattle.rules.specs.Program.{reply, program}
 use Rattle.tables.specs.Views.{view, tableAnswer}
-use Rattle.tables.specs.Writes.{Wrote}
+use Rattle.tables.specs.Writes.{Wrote, wroteText}
 use Rattle.tables.specs.declared.table.Table.{Table}
 use Rattle.tables.specs.declared.table.Outcome.{Outcome}
 use Rattle.tables.specs.declared.table.Outcome.the-variants as Outcomes
 use Rattle.tables.specs.declared.table.TableAnswer.{TableAnswer}
-use Rattle.reports.specs.Written.{wroteText}
 
 -- no text is longer: 146 bytes before the slots of 64 tasks, 4,096 frames of 32 cores with 79 bytes each, 51 for the totals
 abbrev pub textMax : ℕ

@@ -6,28 +6,25 @@ use mathlib.Core.List.{List, [], _∷_, _++_, map, append-assoc, append-nil}
 use native.Mathlib.Numerals.{add-one}
 use native.Mathlib.Omega.{arith}
 use borrow.Rule.Slice.PartMut.{midOf, putMid}
-use borrow.Author.Tests.{lt-ltb, le-ltb}
 use lib.ListN.{length, getD, drop, length-append}
 use Rattle.laws.specs.Lists.{sum, join, numbers}
 use Rattle.laws.proofs.Filling.{from-snoc}
 use Rattle.laws.proofs.Joins.{join-last}
 use Rattle.rules.specs.Limits.{tasksMax}
 use Rattle.rules.specs.Tables.{size}
-use Rattle.rules.specs.Refusals.{Test, Answer}
-use Rattle.rules.specs.States as States
-use Rattle.rules.specs.Answers.{lay, roomTest}
+use Rattle.rules.specs.Answers.{lay}
 use Rattle.rules.specs.declared.refusal.Refusal.the-variants.{NoRoom, BadState}
 use Rattle.tables.specs.Views as Tables
-use Rattle.tables.specs.Writes.{Wrote, made, wrote}
+use Rattle.tables.specs.Writes.{made, wroteText}
 use Rattle.tables.specs.declared.write.WriteAnswer.the-variants.{Written, Refused}
-use Rattle.reading_laws.proofs.Lays.{lay-lent}
+use Rattle.tables.proofs.Written.{text-short, text-written}
 use Rattle.reading_laws.proofs.Laying.{Laid, first, more, ends-at, laid-front, Pieces, next-piece}
 use Rattle.machine.specs.Full.{Full}
 use Rattle.machine.specs.Views.{tasks, taskNumber, coreNumber, units, view, formed}
 use Rattle.machine.specs.declared.state.State.{State}
 use Rattle.machine.proofs.Viewing.{at-viewed, size-view, rowOf-view}
 use Rattle.machine.proofs.Packing.{padded-few}
-use Rattle.machine.proofs.Asking.{formed-says, asked-ill, asked-well}
+use Rattle.machine.proofs.Asking.{formed-says, text-ill, text-well}
 use Rattle.stored.specs.Layout.{bytesOf, written, fixedWidths, taskWidths, lengthOf, fixedOf, taskOf, recordOf, store}
 use Rattle.stored.specs.Answers.{storeState, storedState}
 use Rattle.stored.proofs.Numbers.{length-bytesOf}
@@ -179,39 +176,26 @@ module _ (s : State) (full : Full s) (few : tasks s ≤ tasksMax) where
 -- ---- the answer
 
 module _ (s : State) (out : List ℕ) (place : ℕ) where
-  -- the test for room, after that of the state
-  abbrev tests : States.State → List Test
-  tests st = roomTest out place (length (store st)) ∷ []
-
-  -- the buffer with the bytes in it
-  abbrev filled : States.State → List ℕ
-  filled st = lay out place (store st)
-
-  abbrev answer : Answer (List ℕ) → Wrote
-  answer a = wrote (length (store (view s))) out a
-
   -- the state is not well formed
   pub store-ill : formed s ≡ false → made (Refused BadState) out ≡ storedState s out place
-  unfolding storedState storeState wrote
-  store-ill e = sym (ap answer (asked-ill s tests filled e))
+  unfolding storedState storeState
+  store-ill e = text-ill s store out place (length (store (view s))) e
 
   module _ (full : Full s) (ok : formed s ≡ true) where
-    few : tasks s ≤ tasksMax
-    few = padded-few s (formed-says s ok .0)
+    -- its bytes are written, where there is room
+    bytes-for : wroteText out place (store (view s)) ≡ storedState s out place
+    unfolding storedState storeState
+    bytes-for = text-well s store out place (length (store (view s))) refl ok
 
-    -- its bytes have no room
+    long : length (store (view s)) ≡ lengthOf (tasks s)
+    long = length-stored s full (padded-few s (formed-says s ok .0))
+
+    -- they have no room
     pub store-short : length out < place + lengthOf (tasks s) → made (Refused NoRoom) out ≡ storedState s out place
-    unfolding storedState storeState wrote roomTest
-    store-short h = sym (ap answer (asked-well s tests filled ok) ∙ rw (length-stored s full few, lt-ltb (length out) (place + lengthOf (tasks s)) h))
+    store-short h = text-short out place (store (view s)) (lengthOf (tasks s)) long h ∙ bytes-for
 
     -- they have, and were written through the lent tail
     pub store-written : (tail : List ℕ) → place + lengthOf (tasks s) ≤ length out
         → tail ≡ store (view s) ++ drop (lengthOf (tasks s)) (midOf place (length out - place) out)
         → made (Written (lengthOf (tasks s))) (putMid place (length out - place) out tail) ≡ storedState s out place
-    unfolding storedState storeState wrote roomTest
-    store-written tail room e =
-        let laid : putMid place (length out - place) out tail ≡ lay out place (store (view s)) =
-        lay-lent out place (lengthOf (tasks s)) (store (view s)) tail (length-stored s full few) (omega arith) e
-        in
-        ap (made (Written (lengthOf (tasks s)))) laid
-        ∙ sym (ap answer (asked-well s tests filled ok) ∙ rw (length-stored s full few, le-ltb (length out) (place + lengthOf (tasks s)) room))
+    store-written tail room e = text-written out place (store (view s)) (lengthOf (tasks s)) long room tail e ∙ bytes-for

@@ -5,6 +5,7 @@ pub mod Pairs
 pub mod Rows
 pub mod Files
 pub mod Lists
+pub mod Written
 pub mod Writes
 pub mod Headers
 pub mod Unique

@@ -6,7 +6,6 @@ use mathlib.Core.Option.{Option, none, some}
 use native.Mathlib.Numerals.{add-one}
 use native.Mathlib.Omega.{arith}
 use borrow.Rule.Slice.PartMut.{midOf, putMid}
-use borrow.Author.Tests.{lt-ltb, le-ltb}
 use lib.Dec.{T}
 use lib.ListN.{length, getD, take, drop}
 use lib.Seq.{take-suc, take-all}
@@ -17,7 +16,7 @@ use Rattle.rules.specs.Tables as Tables
 use Rattle.rules.specs.Tables.{noRow, listTests, takeList, accepts}
 use Rattle.rules.specs.Frames.{frame}
 use Rattle.rules.specs.Files.{headerLine, rowLine, text}
-use Rattle.rules.specs.Answers.{lay, roomTest, writeList}
+use Rattle.rules.specs.Answers.{writeList}
 use Rattle.rules.specs.Refusals.{first, answered, passes}
 use Rattle.rules.specs.declared.refusal.Refusal.{Refusal}
 use Rattle.rules.specs.declared.refusal.Refusal.the-variants.{NoRoom}
@@ -25,12 +24,12 @@ use Rattle.reading_laws.proofs.Files.{length-rows, length-text}
 use Rattle.reading_laws.proofs.Tests.{first-passed, first-stays, none-passes, accepts-iff}
 use Rattle.tables.specs.Views.{zeroRow, pack, view, withoutTable, tableAnswer}
 use Rattle.tables.specs.Pairs.{pairShape}
-use Rattle.tables.specs.Writes.{made, wrote, writtenList}
+use Rattle.tables.specs.Writes.{made, wrote, wroteText, writtenList}
 use Rattle.tables.specs.declared.table.Table.{Table}
 use Rattle.tables.specs.declared.table.Outcome.the-variants as Outcome
 use Rattle.tables.specs.declared.write.WriteAnswer.the-variants.{Written, Refused}
 use Rattle.tables.proofs.Views.{row-view}
-use Rattle.reading_laws.proofs.Lays.{lay-lent}
+use Rattle.tables.proofs.Written.{text-short, text-written}
 use Rattle.reading_laws.proofs.Laying.{first as laid-first, more, laid-front, Pieces, next-piece, all-pieces}
 use Rattle.tables.proofs.Pairs.{length-pair}
 
@@ -121,19 +120,17 @@ module _ (m : ℕ) (rows : List Rules.Row) where
     taken-few = accepts-iff tbl .0 (passed .0) .tasks .most
 
     module _ (out : List ℕ) (place : ℕ) where
+      -- its text is written, where there is room
+      text-for : wroteText out place (text tbl) ≡ writtenList m rows out place
+      unfolding wroteText writtenList writeList
+      text-for = rw (first-passed (listTests m rows) _ (passed .0))
+
       -- there is no room for the text
       pub no-room : length out < place + (7 + 11 * length rows) → made (Refused NoRoom) out ≡ writtenList m rows out place
-      unfolding writtenList writeList wrote roomTest
-      no-room l =
-          rw (first-passed (listTests m rows) _ (passed .0), lt-ltb (length out) (place + length (text tbl)) (omega (arith, length-text tbl)))
+      no-room l = text-short out place (text tbl) (7 + 11 * length rows) (length-text tbl) l ∙ text-for
 
       -- there is room, and the text is laid from the place on
       pub room-given : (tail : List ℕ) → place + (7 + 11 * length rows) ≤ length out
-          → tail ≡ text tbl ++ drop (7 + 11 * length rows) (take (length out - place) (drop place out))
+          → tail ≡ text tbl ++ drop (7 + 11 * length rows) (midOf place (length out - place) out)
           → made (Written (7 + 11 * length rows)) (putMid place (length out - place) out tail) ≡ writtenList m rows out place
-      unfolding writtenList writeList wrote roomTest
-      room-given tail l e =
-          let laid : putMid place (length out - place) out tail ≡ lay out place (text tbl) =
-          lay-lent out place (7 + 11 * length rows) (text tbl) tail (length-text tbl) (omega arith) e
-          in
-          rw (first-passed (listTests m rows) _ (passed .0), le-ltb (length out) (place + length (text tbl)) (omega (arith, length-text tbl)), length-text tbl, laid)
+      room-given tail l e = text-written out place (text tbl) (7 + 11 * length rows) (length-text tbl) l tail e ∙ text-for

@@ -1,11 +1,11 @@
--- What writing a list of rows answers, and leaves in the buffer.
+-- What writing into a buffer answers, and leaves in it.
 use Prim.Native.Nat.{ℕ}
-use mathlib.Core.List.{List}
+use mathlib.Core.List.{List, [], _∷_}
 use lib.ListN.{length}
-use Rattle.rules.specs.Refusals.{Answer, taken, refused}
+use Rattle.rules.specs.Refusals.{Answer, taken, refused, settle}
 use Rattle.rules.specs.Rows.{Row}
 use Rattle.rules.specs.Files.{text}
-use Rattle.rules.specs.Answers.{writeList}
+use Rattle.rules.specs.Answers.{lay, roomTest, writeList}
 use Rattle.tables.specs.declared.table.Outcome.{Outcome}
 use Rattle.tables.specs.declared.table.Outcome.the-variants as outcome
 use Rattle.tables.specs.declared.write.WriteAnswer.{WriteAnswer}
@@ -30,6 +30,10 @@ unfoldable pub wrote : ℕ → List ℕ → Answer (List ℕ) → Wrote
 wrote size out (taken buffer) = made (Written size) buffer
 wrote size out (refused r l) = made (Refused r) out
 
--- writing a list of rows into a buffer from a place on
+-- writing a text into a buffer from a place on, where there is room for all of it
+unfoldable pub wroteText : List ℕ → ℕ → List ℕ → Wrote
+wroteText out place txt = wrote (length txt) out (settle (roomTest out place (length txt) ∷ []) (lay out place txt))
+
+-- writing a list of rows
 unfoldable pub writtenList : ℕ → List Row → List ℕ → ℕ → Wrote
 writtenList m rows out place = wrote (length (text (record { m = m; rows = rows }))) out (writeList m rows out place)

@@ -2,7 +2,7 @@
 use borrow.Author.Needs.{needs}
 use Rattle.reports.specs.Reports.{reportOf}
 use Rattle.capi.specs.Calls.{giveReport}
-use Rattle.reports.specs.Written.{wroteText}
+use Rattle.tables.specs.Writes.{wroteText}
 use Rattle.capi.proofs.Replying.{text-replied}
 use Rattle.capi.proofs.program.zq_report.Statement.{statement}
 use Rattle.capi.proofs.program.zq_report.Tie as tie

@@ -9,7 +9,7 @@ use denote.Ref.{now}
 use Rattle.tables.specs.Views.{view}
 use Rattle.reports.specs.Heads.{head}
 use Rattle.reports.proofs.Heads.{length-head}
-use Rattle.reports.proofs.Written.{text-short, text-written}
+use Rattle.tables.proofs.Written.{text-short, text-written}
 use borrow.Author.Needs.{needs}
 use Rattle.capi.proofs.verdict.write_head_at.Statement.{statement}
 use Rattle.capi.proofs.verdict.write_head_at.Tie as tie
