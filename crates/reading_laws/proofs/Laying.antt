@@ -36,13 +36,17 @@ module _ (out : List ℕ) where
           ends = length-append text next ∙ omega (arith, laid .ends);
         }
 
-    -- a field more, written into its place
-    pub field-more : {now′ : List ℕ} (w v : ℕ) → end + w ≤ length out → now′ ≡ lay now end (field w v) → Laid out (text ++ field w v) now′ (end + w)
-    field-more w v room e =
+    -- one more, in its place
+    pub put : {now′ : List ℕ} (next : List ℕ) (n : ℕ) → length next ≡ n → end + n ≤ length out → now′ ≡ lay now end next → Laid out (text ++ next) now′ (end + n)
+    put next n len room e =
         record {
-          whole = e ∙ laid-next out 0 text now (laid .whole) end (omega (arith, laid .ends)) (field w v) (omega (arith, length-field w v));
-          ends = length-append text (field w v) ∙ omega (arith, laid .ends, length-field w v);
+          whole = e ∙ laid-next out 0 text now (laid .whole) end (omega (arith, laid .ends)) next (omega arith);
+          ends = length-append text next ∙ omega (arith, laid .ends);
         }
+
+    -- a field
+    pub field-more : {now′ : List ℕ} (w v : ℕ) → end + w ≤ length out → now′ ≡ lay now end (field w v) → Laid out (text ++ field w v) now′ (end + w)
+    field-more w v = put (field w v) w (length-field w v)
 
     -- where it ends, said otherwise
     pub ends-at : (n : ℕ) → end ≡ n → Laid out text now n

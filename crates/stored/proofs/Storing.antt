@@ -1,4 +1,4 @@
--- A state's bytes laid into a buffer, field by field and record by record, each through the lent tail.
+-- A state's bytes laid into a buffer, field by field and record by record.
 use Prim.Native.Nat.{ℕ, _+_, _-_, _*_, _≤_, _<_}
 use mathlib.Core.Path.{_≡_, refl, sym, ap, _∙_}
 use mathlib.Core.Bool.{true, false}
@@ -18,7 +18,7 @@ use Rattle.tables.specs.Views as Tables
 use Rattle.tables.specs.Writes.{made, wroteText}
 use Rattle.tables.specs.declared.write.WriteAnswer.the-variants.{Written, Refused}
 use Rattle.tables.proofs.Written.{text-short, text-written}
-use Rattle.reading_laws.proofs.Laying.{Laid, first, more, ends-at, laid-front, Pieces, next-piece}
+use Rattle.reading_laws.proofs.Laying.{Laid, nothing, put, first, more, ends-at, laid-front, Pieces, next-piece}
 use Rattle.machine.specs.Full.{Full}
 use Rattle.machine.specs.Views.{tasks, taskNumber, coreNumber, units, view, formed}
 use Rattle.machine.specs.declared.state.State.{State}
@@ -47,21 +47,15 @@ pub record Fields (out ws vs now : List ℕ) : Type 0 where
   pub laid : Laid out (written ws vs) now (sum ws)
 
 module _ (out : List ℕ) where
-  pub first-field : (w v : ℕ) {now : List ℕ} → now ≡ bytesOf w v ++ drop w out → Fields out (w ∷ []) (v ∷ []) now
+  pub no-field : Fields out [] [] out
   unfolding written
-  first-field w v e =
-      let one : List ℕ = written (w ∷ []) (v ∷ []) in
-      record {
-        paired = refl;
-        laid = ends-at out (first out one w (length-written (w ∷ []) (v ∷ []) refl ∙ omega arith) (rw (append-nil (bytesOf w v)) e)) (sum (w ∷ [])) (omega arith);
-      }
+  no-field = record { paired = refl; laid = nothing out }
 
   module _ {ws vs now : List ℕ} (so-far : Fields out ws vs now) (end : ℕ) (ends : sum ws ≡ end) where
-    pub next-field : (w v : ℕ) {tail : List ℕ} → end + w ≤ length out → tail ≡ bytesOf w v ++ drop w (midOf end (length now - end) now)
-        → Fields out (ws ++ (w ∷ [])) (vs ++ (v ∷ [])) (putMid end (length now - end) now tail)
-    next-field w v {tail} room e =
+    pub next-field : (w v : ℕ) {now′ : List ℕ} → end + w ≤ length out → now′ ≡ lay now end (bytesOf w v) → Fields out (ws ++ (w ∷ [])) (vs ++ (v ∷ [])) now′
+    next-field w v room e =
         let paired : length (vs ++ (v ∷ [])) ≡ length (ws ++ (w ∷ [])) = length-append vs (v ∷ []) ∙ omega (arith, so-far .paired, length-append ws (w ∷ [])) in
-        let next = more out (ends-at out (so-far .laid) end ends) (bytesOf w v) w (length-bytesOf w v) room e in
+        let next = put out (ends-at out (so-far .laid) end ends) (bytesOf w v) w (length-bytesOf w v) room e in
         record {
           paired = paired;
           laid = record { whole = next .whole ∙ ap (lay out 0) (sym (written-snoc ws vs w v (so-far .paired))); ends = length-written (ws ++ (w ∷ [])) (vs ++ (v ∷ [])) paired };
@@ -95,20 +89,6 @@ task-entries s full few i more =
       at-viewed (λ x. x .0) (tasks s) (s .done) (omega (arith, full .done)) (units 0) i refl more,
       at-viewed (λ x. x .0) (tasks s) (s .dropped) (omega (arith, full .dropped)) (units 0) i refl more,
     )
-
--- its two halves, one right after the other
-pub halves-laid : (out : List ℕ) (c t rank last left done dropped : ℕ) {now tail : List ℕ} → 34 ≤ length out
-    → now ≡ written (4 ∷ 4 ∷ 1 ∷ 1 ∷ []) (c ∷ t ∷ rank ∷ last ∷ []) ++ drop 10 out
-    → tail ≡ written (8 ∷ 8 ∷ 8 ∷ []) (left ∷ done ∷ dropped ∷ []) ++ drop 24 (midOf 10 (length now - 10) now)
-    → putMid 10 (length now - 10) now tail ≡ written taskWidths (c ∷ t ∷ rank ∷ last ∷ left ∷ done ∷ dropped ∷ []) ++ drop 34 out
-unfolding written
-halves-laid out c t rank last left done dropped {now} {tail} room one two =
-    let numbers₄ : List ℕ = written (4 ∷ 4 ∷ 1 ∷ 1 ∷ []) (c ∷ t ∷ rank ∷ last ∷ []) in
-    let units₃ : List ℕ = written (8 ∷ 8 ∷ 8 ∷ []) (left ∷ done ∷ dropped ∷ []) in
-    let front = first out numbers₄ 10 (length-written (4 ∷ 4 ∷ 1 ∷ 1 ∷ []) (c ∷ t ∷ rank ∷ last ∷ []) refl) one in
-    let both = more out front units₃ 24 (length-written (8 ∷ 8 ∷ 8 ∷ []) (left ∷ done ∷ dropped ∷ []) refl) room two in
-    let joined : numbers₄ ++ units₃ ≡ written taskWidths (c ∷ t ∷ rank ∷ last ∷ left ∷ done ∷ dropped ∷ []) = simp (append-assoc, append-nil) in
-    laid-front out both 34 refl ∙ ap (λ (l : List ℕ). l ++ drop 34 out) joined
 
 -- ---- the records, one right after the other
 

@@ -1,8 +1,9 @@
 // Big-endian numbers: read out of a byte string, and written into one.
 ghost use mathlib.Core.Path.{_≡_};
 ghost use mathlib.Core.List.{_++_};
-ghost use Prim.Native.Nat.{_%_, _≤_};
+ghost use Prim.Native.Nat.{_+_, _%_, _≤_};
 ghost use lib.ListN.{length, drop};
+ghost use Rattle.rules.specs.Answers.{lay};
 ghost use Rattle.stored.specs.Layout.{bytesOf};
 ghost use Rattle.stored.specs.Places.{Within, Read};
 
@@ -33,7 +34,7 @@ fn low(v: u64) -> u8
 }
 
 // The first `width` bytes become v; nothing after them differs.
-pub fn write_bytes(out: &mut [u8], width: usize, v: u64)
+fn write_front(out: &mut [u8], width: usize, v: u64)
     requires { ⌜ width ≤ length (now out) ⌝ }
     ensures { λ r. ⌜ now (out .exit) ≡ bytesOf width v ++ drop width (now (out .entry)) ⌝ }
 {
@@ -44,4 +45,12 @@ pub fn write_bytes(out: &mut [u8], width: usize, v: u64)
         out[i] = low(rest);
         rest = rest / 256;
     }
+}
+
+// The `width` bytes from a place on become v; no other byte differs.
+pub fn write_bytes(out: &mut [u8], at: usize, width: usize, v: u64)
+    requires { ⌜ at + width ≤ length (now out) ⌝ }
+    ensures { λ r. ⌜ now (out .exit) ≡ lay (now (out .entry)) at (bytesOf width v) ⌝ }
+{
+    write_front(&mut out[at..], width, v);
 }

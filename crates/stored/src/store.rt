@@ -1,4 +1,4 @@
-// A state written as bytes, each field through the lent tail of the buffer.
+// A state written as bytes, field by field and record by record.
 use crate::bytes::write_bytes;
 use machine::form::is_formed;
 use machine::state::State;
@@ -20,32 +20,11 @@ fn write_fixed(out: &mut [u8], m: u32, n: u32, clock: u32, moves: u64, misses: u
     requires { ⌜ 22 ≤ length (now out) ⌝ }
     ensures { λ _. ⌜ now (out .exit) ≡ written fixedWidths (m ∷ n ∷ clock ∷ moves ∷ misses ∷ []) ++ drop 22 (now (out .entry)) ⌝ }
 {
-    write_bytes(out, 1, m as u64);
-    write_bytes(&mut out[1..], 1, n as u64);
-    write_bytes(&mut out[2..], 4, clock as u64);
-    write_bytes(&mut out[6..], 8, moves);
-    write_bytes(&mut out[14..], 8, misses);
-}
-
-// The row, the rank and the last core of a task's record at the front of the lent part; nothing after them differs.
-fn write_numbers(out: &mut [u8], row: Row, rank: u8, last: u8)
-    requires { ⌜ 10 ≤ length (now out) ⌝ }
-    ensures { λ _. ⌜ now (out .exit) ≡ written (4 ∷ 4 ∷ 1 ∷ 1 ∷ []) (row .c ∷ row .t ∷ rank ∷ last ∷ []) ++ drop 10 (now (out .entry)) ⌝ }
-{
-    write_bytes(out, 4, row.c as u64);
-    write_bytes(&mut out[4..], 4, row.t as u64);
-    write_bytes(&mut out[8..], 1, rank as u64);
-    write_bytes(&mut out[9..], 1, last as u64);
-}
-
-// The units of a task's record at the front of the lent part; nothing after them differs.
-fn write_units(out: &mut [u8], left: u64, done: u64, dropped: u64)
-    requires { ⌜ 24 ≤ length (now out) ⌝ }
-    ensures { λ _. ⌜ now (out .exit) ≡ written (8 ∷ 8 ∷ 8 ∷ []) (left ∷ done ∷ dropped ∷ []) ++ drop 24 (now (out .entry)) ⌝ }
-{
-    write_bytes(out, 8, left);
-    write_bytes(&mut out[8..], 8, done);
-    write_bytes(&mut out[16..], 8, dropped);
+    write_bytes(out, 0, 1, m as u64);
+    write_bytes(out, 1, 1, n as u64);
+    write_bytes(out, 2, 4, clock as u64);
+    write_bytes(out, 6, 8, moves);
+    write_bytes(out, 14, 8, misses);
 }
 
 // The record of a task at the front of the lent part; nothing after it differs.
@@ -53,8 +32,13 @@ fn write_task(out: &mut [u8], row: Row, rank: u8, last: u8, left: u64, done: u64
     requires { ⌜ 34 ≤ length (now out) ⌝ }
     ensures { λ _. ⌜ now (out .exit) ≡ written taskWidths (row .c ∷ row .t ∷ rank ∷ last ∷ left ∷ done ∷ dropped ∷ []) ++ drop 34 (now (out .entry)) ⌝ }
 {
-    write_numbers(out, row, rank, last);
-    write_units(&mut out[10..], left, done, dropped);
+    write_bytes(out, 0, 4, row.c as u64);
+    write_bytes(out, 4, 4, row.t as u64);
+    write_bytes(out, 8, 1, rank as u64);
+    write_bytes(out, 9, 1, last as u64);
+    write_bytes(out, 10, 8, left);
+    write_bytes(out, 18, 8, done);
+    write_bytes(out, 26, 8, dropped);
 }
 
 // The records of all tasks, one right after the other.

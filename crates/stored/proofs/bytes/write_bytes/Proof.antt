@@ -1,54 +1,41 @@
--- `stored::bytes::write_bytes` meets its contract: what is left of the number, before the bytes that are done, is the whole.
+-- `stored::bytes::write_bytes` meets its contract: the number is written at the front of the lent tail.
+use denote.Ref.{now}
+use native.Mathlib.Omega.{arith}
 use borrow.Author.Needs.{needs}
-use Rattle.laws.proofs.Backwards.{Writing, writing-starts, writing-goes-on, writing-ends}
+use Rattle.reading_laws.proofs.Lays.{lay-lent}
 use Rattle.stored.specs.Layout.{bytesOf}
-use Rattle.stored.proofs.Loops.{byte-places}
+use Rattle.stored.proofs.Numbers.{length-bytesOf}
 use Rattle.stored.proofs.bytes.write_bytes.Statement.{statement}
 use Rattle.stored.proofs.bytes.write_bytes.Tie as tie
 
-abbrev Inv-loop : tie.InvT-loop
-Inv-loop out₀ width v rest₀ i₀ out rest i = Writing bytesOf out₀ width v out rest i
+sub-write-front : tie.Need-sub-write-front
+sub-write-front c = search needs
 
-abbrev μ-loop : tie.MeasureT-loop
-μ-loop out₀ width v rest₀ i₀ out rest i = i
+part-write-front-start : tie.Need-part-write-front-start
+part-write-front-start c = search needs
 
-loop-holds : tie.Need-loop-holds Inv-loop μ-loop
-loop-holds c = writing-starts (c .before .pre)
+part-write-front-end : tie.Need-part-write-front-end
+part-write-front-end c = search needs
 
-sub-i : tie.Need-sub-i Inv-loop μ-loop
-sub-i c = search needs
+write-front-requires : tie.Need-write-front-requires
+write-front-requires c κs = search needs
 
-low-requires : tie.Need-low-requires Inv-loop μ-loop
-low-requires c κs = search needs
+same-length : tie.Need-same-length
+same-length c = search needs
 
-slice-write-out : tie.Need-slice-write-out Inv-loop μ-loop
-slice-write-out c = search needs
-
-loop-less : tie.Need-loop-less Inv-loop μ-loop
-loop-less c = search needs
-
-loop-again : tie.Need-loop-again Inv-loop μ-loop
-loop-again c =
-    let t = c .before in
-    rw (c .low .ensures) (writing-goes-on byte-places (t .before .loop .inv) (t .loop-test .taken))
-
-same-length : tie.Need-same-length Inv-loop μ-loop
-same-length c = c .before .loop .inv .kept
-
-returns : tie.Need-returns Inv-loop μ-loop
-returns c = writing-ends byte-places (c .before .loop .inv) (c .loop-test .left)
+returns : tie.Need-returns
+returns c =
+    let start = c .before .before .before .before .before in
+    let a = start .args in
+    lay-lent (now (a .out)) (a .at) (a .width) (bytesOf (a .width) (a .v)) _ (length-bytesOf (a .width) (a .v)) (omega arith) (c .before .before .write-front .ensures)
 
 pub write-bytes-spec : {M : Type 1} → statement M
 write-bytes-spec =
     tie.close
     (tie.spec
-    Inv-loop
-    μ-loop
-    loop-holds
-    sub-i
-    low-requires
-    slice-write-out
-    loop-less
-    loop-again
+    sub-write-front
+    part-write-front-start
+    part-write-front-end
+    write-front-requires
     same-length
     returns)

@@ -2,7 +2,7 @@
 use mathlib.Core.Path.{refl}
 use native.Mathlib.Omega.{arith}
 use denote.Ref.{now}
-use Rattle.stored.proofs.Storing.{first-field, next-field, all-fields}
+use Rattle.stored.proofs.Storing.{no-field, next-field, all-fields}
 use borrow.Author.Needs.{needs}
 use Rattle.stored.proofs.store.write_fixed.Statement.{statement}
 use Rattle.stored.proofs.store.write_fixed.Tie as tie
@@ -10,50 +10,14 @@ use Rattle.stored.proofs.store.write_fixed.Tie as tie
 write-bytes-requires : tie.Need-write-bytes-requires
 write-bytes-requires c κs = search needs
 
-sub-write-bytes : tie.Need-sub-write-bytes
-sub-write-bytes c = search needs
-
-part-write-bytes-start : tie.Need-part-write-bytes-start
-part-write-bytes-start c = search needs
-
-part-write-bytes-end : tie.Need-part-write-bytes-end
-part-write-bytes-end c = search needs
-
 write-bytes-requires-2 : tie.Need-write-bytes-requires-2
 write-bytes-requires-2 c κs = search needs
-
-sub-write-bytes-2 : tie.Need-sub-write-bytes-2
-sub-write-bytes-2 c = search needs
-
-part-write-bytes-start-2 : tie.Need-part-write-bytes-start-2
-part-write-bytes-start-2 c = search needs
-
-part-write-bytes-end-2 : tie.Need-part-write-bytes-end-2
-part-write-bytes-end-2 c = search needs
 
 write-bytes-requires-3 : tie.Need-write-bytes-requires-3
 write-bytes-requires-3 c κs = search needs
 
-sub-write-bytes-3 : tie.Need-sub-write-bytes-3
-sub-write-bytes-3 c = search needs
-
-part-write-bytes-start-3 : tie.Need-part-write-bytes-start-3
-part-write-bytes-start-3 c = search needs
-
-part-write-bytes-end-3 : tie.Need-part-write-bytes-end-3
-part-write-bytes-end-3 c = search needs
-
 write-bytes-requires-4 : tie.Need-write-bytes-requires-4
 write-bytes-requires-4 c κs = search needs
-
-sub-write-bytes-4 : tie.Need-sub-write-bytes-4
-sub-write-bytes-4 c = search needs
-
-part-write-bytes-start-4 : tie.Need-part-write-bytes-start-4
-part-write-bytes-start-4 c = search needs
-
-part-write-bytes-end-4 : tie.Need-part-write-bytes-end-4
-part-write-bytes-end-4 c = search needs
 
 write-bytes-requires-5 : tie.Need-write-bytes-requires-5
 write-bytes-requires-5 c κs = search needs
@@ -70,7 +34,7 @@ returns c =
     let begun = second .before .before .before .before in
     let start = begun .before .before .before in
     let out = now (start .args .out) in
-    let one = first-field out 1 _ (begun .write-bytes .ensures) in
+    let one = next-field out (no-field out) 0 refl 1 _ (omega (arith, start .pre)) (begun .write-bytes .ensures) in
     let two = next-field out one 1 refl 1 _ (omega (arith, start .pre)) (second .write-bytes2 .ensures) in
     let three = next-field out two 2 refl 4 _ (omega (arith, start .pre)) (third .write-bytes3 .ensures) in
     let four = next-field out three 6 refl 8 _ (omega (arith, start .pre)) (fourth .write-bytes4 .ensures) in
@@ -82,21 +46,9 @@ write-fixed-spec =
     tie.close
     (tie.spec
     write-bytes-requires
-    sub-write-bytes
-    part-write-bytes-start
-    part-write-bytes-end
     write-bytes-requires-2
-    sub-write-bytes-2
-    part-write-bytes-start-2
-    part-write-bytes-end-2
     write-bytes-requires-3
-    sub-write-bytes-3
-    part-write-bytes-start-3
-    part-write-bytes-end-3
     write-bytes-requires-4
-    sub-write-bytes-4
-    part-write-bytes-start-4
-    part-write-bytes-end-4
     write-bytes-requires-5
     same-length
     returns)
