@@ -7,7 +7,7 @@ use mathlib.Core.List.{List, [], _∷_}
 use native.Mathlib.Omega.{arith}
 use lib.Dec.{T, eqb, eqb→eq}
 use lib.ListN.{length}
-use Rattle.laws.proofs.Tests.{of-T}
+use Rattle.laws.proofs.Tests.{never, of-T}
 use Rattle.rules.specs.Refusals.{Test, test, Answer, taken, refused, settle, andThen}
 use Rattle.rules.specs.Tables.{size, headerTests, listTests, accepts}
 use Rattle.rules.specs.States.{State}
@@ -82,7 +82,7 @@ module _ {A : Type 0} (tests : State → List Test) (value : State → A) where
 judgeable : {bs : List ℕ} {a : Answer State} → Loads bs a → Judgeable (stateAnswer a)
 unfolding stateAnswer pack
 judgeable (well st w len) = λ told. opened (st .table) (accepts-of (st .table) (formed-kept st w .taken))
-judgeable ill = λ told. let z : _≡_ {A = ℕ} 0 1 = cc in absurd (omega arith)
+judgeable ill = λ told. never cc
 
 pub loads-judgeable : (bs : List ℕ) {x : StateAnswer} → x ≡ stateAnswer (load bs) → Judgeable x
 loads-judgeable bs e = subst Judgeable (sym e) (judgeable (loads bs))

@@ -4,9 +4,9 @@ use mathlib.Core.Path.{_≡_, refl, sym, ap, subst, _∙_}
 use mathlib.Core.Bool.{Bool, true, false, cond}
 use mathlib.Core.List.{List}
 use mathlib.Core.Option.{none, some}
-use native.Mathlib.Omega.{arith}
 use lib.Dec.{T, ltb}
 use lib.ListN.{length}
+use Rattle.laws.proofs.Tests.{never}
 use Rattle.rules.specs.Refusals.{Answer, taken, refused, answered, andThen}
 use Rattle.rules.specs.Rows.{Row}
 use Rattle.rules.specs.Tables.{Table, listTests, accepts, takeList}
@@ -64,7 +64,7 @@ list-takes m rows tbl e =
 startable : (a : Answer Table) → Takes a → Startable (tableAnswer a)
 unfolding tableAnswer withoutTable
 startable (taken tbl) h = λ told. opened tbl (h tbl refl)
-startable (refused r l) h = λ told. let z : _≡_ {A = ℕ} 0 1 = cc in absurd (omega arith)
+startable (refused r l) h = λ told. never cc
 
 -- a run can start with its table
 pub takes-startable : (a : Answer Table) → Takes a → {x : TableAnswer} → x ≡ tableAnswer a → Startable x

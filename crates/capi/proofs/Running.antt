@@ -7,7 +7,7 @@ use native.Mathlib.Omega.{arith}
 use lib.Dec.{T, ltb, nltb→le}
 use lib.ListN.{length}
 use lib.Seq.{drop-length}
-use Rattle.laws.proofs.Tests.{and-left, and-right}
+use Rattle.laws.proofs.Tests.{never, and-left, and-right}
 use Rattle.rules.specs.Limits.{coresMax, clockMax}
 use Rattle.rules.specs.Refusals.{numberOf, Test, test, passes, Answer, taken, refused, andThen}
 use Rattle.rules.specs.Tables.{Table, size}
@@ -69,8 +69,7 @@ module _ (s : StateDeclared.State) (out : List ℕ) {a : RunAnswer} {out′ : Li
   of-refused : (b : Answer Ran) → runEnd a out′ ≡ ended s out b → {r : Refusal} → a .outcome ≡ Refused r → (l : ℕ) × (b ≡ refused r l) × (out′ ≡ out)
   of-refused (taken ran) e told =
       let o : a .outcome ≡ Taken = ap (λ x. x .answer .outcome) e in
-      let z : _≡_ {A = ℕ} 0 1 = cc in
-      absurd (omega arith)
+      never cc
   of-refused (refused q l) e told =
       let o : a .outcome ≡ Refused q = ap (λ x. x .answer .outcome) e in
       (l, cc, ap (λ x. x .out) e)
@@ -79,8 +78,7 @@ module _ (s : StateDeclared.State) (out : List ℕ) {a : RunAnswer} {out′ : Li
   of-taken (taken ran) e told = (ran, refl, ap (λ x. x .answer .state) e, ap (λ x. x .out) e)
   of-taken (refused q l) e told =
       let o : a .outcome ≡ Refused q = ap (λ x. x .answer .outcome) e in
-      let z : _≡_ {A = ℕ} 0 1 = cc in
-      absurd (omega arith)
+      never cc
 
 -- the state and the buffer that the rules give, and the tests before them
 module _ (count : ℕ) (out : List ℕ) (place : ℕ) (st : State) where
@@ -132,10 +130,7 @@ module _ (bs : List ℕ) (count : ℕ) (out : List ℕ) (place : ℕ) {a : RunAn
         lines = found .3 ∙ ap (λ (x : Ran). x .out) same;
         answer = rw (found .1, same);
       }
-  took ill e told =
-      let found = of-taken _ out (refused BadState 0) e told in
-      let z : _≡_ {A = ℕ} 0 1 = cc (found .1) in
-      absurd (omega arith)
+  took ill e told = never (cc (of-taken _ out (refused BadState 0) e told .1))
 
 module _ (bs : List ℕ) (count : ℕ) (out : List ℕ) (place : ℕ) {x : StateAnswer} (read : x ≡ stateAnswer (load bs)) {a : RunAnswer} {out′ : List ℕ}
     (e : runEnd a out′ ≡ runAnswer (x .state) count out place)

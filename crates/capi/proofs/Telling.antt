@@ -2,7 +2,6 @@
 use Prim.Native.Nat.{ℕ}
 use mathlib.Core.Path.{_≡_, refl, sym, ap, _∙_}
 use mathlib.Core.List.{List, [], _∷_}
-use native.Mathlib.Omega.{arith}
 use lib.IntN.{ℤ}
 use lib.ListN.{length}
 use Rattle.rules.specs.Refusals.{numberOf, test, Answer, taken, refused, andThen}
@@ -64,11 +63,11 @@ module _ (bs : List ℕ) {x : StateAnswer} (read : x ≡ stateAnswer (load bs)) 
     by-taken : (b : Answer ℤ) {z : ℤ} → leadAnswer b ≡ Taken z → reply 0 z ≡ replied before b
     unfolding replied
     by-taken (taken y) told = cc
-    by-taken (refused r l) told = let z : _≡_ {A = ℕ} 0 1 = cc in absurd (omega arith)
+    by-taken (refused r l) told = cc
 
     by-refused : (b : Answer ℤ) {r : Refusal} → leadAnswer b ≡ Refused r → reply (numberOf r) before ≡ replied before b
     unfolding replied
-    by-refused (taken y) told = let z : _≡_ {A = ℕ} 0 1 = cc in absurd (omega arith)
+    by-refused (taken y) told = cc
     by-refused (refused r l) told = cc
 
     pub lead-taken : {z : ℤ} → answer ≡ Taken z → reply 0 z ≡ replied before (giveLead bs task)

@@ -4,9 +4,14 @@ use mathlib.Core.Path.{_≡_, refl, sym, subst, _∙_}
 use mathlib.Core.Bool.{Bool, true, false, cond, _&&_}
 use mathlib.Core.List.{List, [], _∷_}
 use mathlib.Core.Logic.{_⊎_, inl, inr, ⊎-elim}
+use native.Mathlib.Omega.{arith}
 use borrow.Author.Tests.{eqb-true, eqb-false, eq-eqb, ne-eqb}
 use lib.Dec.{T, eqb, eqb→eq, eqb-refl}
 use Rattle.laws.specs.Lists.{same}
+
+-- of what cannot be, anything follows: `cc` finds 0 ≡ 1 where two constructors would be equal
+pub never : {A : Type 0} → _≡_ {A = ℕ} 0 1 → A
+never e = absurd (omega arith)
 
 pub of-T : (b : Bool) → T b → b ≡ true
 of-T true t = refl

@@ -10,7 +10,7 @@ use denote.Ref.{now}
 use lib.Dec.{T, eqb, ltb}
 use lib.ListN.{length, replicate, replicate-append-replicate, length-replicate}
 use Rattle.laws.specs.Lists.{all}
-use Rattle.laws.proofs.Tests.{and-T}
+use Rattle.laws.proofs.Tests.{never, and-T}
 use Rattle.laws.proofs.Entries.{eq-T}
 use Rattle.laws.proofs.Copying.{map-replicate}
 use Rattle.rules.specs.Limits.{tasksMax, clockMax}
@@ -70,7 +70,7 @@ all-none (suc k) st h =
 
 -- no run is both
 never-both : {o : RunOutcome} {x : Refusal} → o ≡ Refused x → o ≡ Taken → ⊥
-never-both p q = let z : _≡_ {A = ℕ} 0 1 = cc in omega arith
+never-both p q = never cc
 
 module _ (s : State) (out : List ℕ) {r : RunAnswer} {out′ : List ℕ} where
   by-answer : (b : Bool) (o : Option Refusal) (ran : Ran) → runEnd r out′ ≡ ended s out (cond b (answered o ran) (refused BadState 0)) → r .outcome ≡ Taken
@@ -145,11 +145,11 @@ module _ (tbl : Table) (t : T (accepts tbl)) where
 -- a judgement that was given is the one that is defined
 by-tests : (o : Option Refusal) {d j : Judgement} → verdictAnswer (answered o d) ≡ Judged j → j ≡ d
 by-tests none e = cc
-by-tests (some x) e = let z : _≡_ {A = ℕ} 0 1 = cc in absurd (omega arith)
+by-tests (some x) e = cc
 
 by-verdict : (b : Bool) → cond b Admitted NotAdmitted ≡ Admitted → T b
 by-verdict true e = tt
-by-verdict false e = let z : _≡_ {A = ℕ} 0 1 = cc in absurd (omega arith)
+by-verdict false e = never cc
 
 judged-admitted : (tbl : Table) → verdict tbl ≡ Admitted → T (admitted tbl)
 unfolding verdict

@@ -86,23 +86,24 @@ module _ {text : ℕ → List ℕ} {size n : ℕ} {out : List ℕ} where
 
   module _ {now : List ℕ} {end i : ℕ} (p : Pieces text size n out now end i) where
     module _ (missing : i < n) where
-      fits : end + size ≤ length out
-      fits = omega (arith, mul-le-mul-left size missing, p .ends, p .room)
+      -- the next one ends within the buffer
+      pub piece-fits : end + size ≤ length out
+      piece-fits = omega (arith, mul-le-mul-left size missing, p .ends, p .room)
 
-      -- there is room for one more
+      -- there is room for it
       pub piece-room : size ≤ length (midOf end (length now - end) now)
-      piece-room = omega (arith, fits, length-take (length now - end) (drop end now), length-drop end now, p .kept)
+      piece-room = omega (arith, piece-fits, length-take (length now - end) (drop end now), length-drop end now, p .kept)
 
       -- one more
       pub next-piece : {tail : List ℕ} (next : List ℕ) → length next ≡ size → text (i + 1) ≡ text i ++ next
           → tail ≡ next ++ drop size (midOf end (length now - end) now) → Pieces text size n out (putMid end (length now - end) now tail) (end + size) (i + 1)
       next-piece next len joined e =
-          let laid = more out (p .laid) next size len fits e in
+          let laid = more out (p .laid) next size len piece-fits e in
           record {
             within = omega arith;
             ends = omega (arith, p .ends);
             room = p .room;
-            kept = ap length (laid .whole) ∙ length-lay out 0 (text i ++ next) (omega (arith, laid .ends, fits));
+            kept = ap length (laid .whole) ∙ length-lay out 0 (text i ++ next) (omega (arith, laid .ends, piece-fits));
             laid = record { whole = laid .whole ∙ ap (lay out 0) (sym joined); ends = ap length joined ∙ laid .ends };
           }
 

@@ -10,10 +10,10 @@ use native.Mathlib.Omega.{arith}
 use lib.Dec.{T, eqb, ltb}
 use lib.ListN.{length, getD}
 use Rattle.laws.specs.Lists.{join}
-use Rattle.laws.proofs.Tests.{and-left, and-right}
+use Rattle.laws.proofs.Tests.{never, and-left, and-right}
 use Rattle.laws.proofs.Exactly.{zero-iff, order-iff, nor-iff, and-iff, otherwise, decides, cond-true, cond-false}
 use Rattle.rules.specs.Limits.{coresMin, coresMax, tasksMin, tasksMax, periodMax, repeatMax}
-use Rattle.rules.specs.Refusals.{Test, test, first, taken, answered, settle, passes}
+use Rattle.rules.specs.Refusals.{Test, test, first, taken, refused, answered, settle, passes}
 use Rattle.rules.specs.Rows.{Row}
 use Rattle.rules.specs.Repeat.{repeatLength}
 use Rattle.rules.specs.Tables.{Table, size, outside, headerTests, rowTests, wholeTests, listTests, accepts}
@@ -67,7 +67,15 @@ settle-taken ts a b e = by-cases (first ts) refl e
   where
     by-cases : (o : Option Refusal) → first ts ≡ o → answered o a ≡ taken b → T (passes ts) × (a ≡ b)
     by-cases none f g = (none-passes ts f, cc)
-    by-cases (some r) f g = absurd (let z : _≡_ {A = ℕ} 0 1 = cc in omega arith)
+    by-cases (some r) f g = never cc
+
+-- the refusal of such an answer is the first of the tests'
+pub settle-refused : {A : Type 0} (ts : List Test) (a : A) {r : Refusal} {l : ℕ} → settle ts a ≡ refused r l → first ts ≡ some r
+settle-refused ts a {r} {l} e = by-cases (first ts) e
+  where
+    by-cases : (o : Option Refusal) → answered o a ≡ refused r l → o ≡ some r
+    by-cases none f = cc
+    by-cases (some q) f = cc
 
 -- ---- what each test is about
 

@@ -5,6 +5,7 @@ use mathlib.Core.List.{List, _++_, map}
 use native.Mathlib.Omega.{arith}
 use lib.Dec.{T}
 use lib.ListN.{length, take, length-append}
+use Rattle.laws.proofs.Tests.{never}
 use Rattle.rules.specs.Limits.{tasksMax}
 use Rattle.rules.specs.Refusals.{settle}
 use Rattle.rules.specs.Repeat.{repeatLength}
@@ -62,7 +63,7 @@ module _ (t : Table) (o : Opened t) where
     judged-is e = cc judged
 
     pub never-refused : {r : Refusal} {l : ℕ} → a ≡ Refused r l → ⊥
-    never-refused e = let z : _≡_ {A = ℕ} 0 1 = cc judged in omega arith
+    never-refused e = never (cc judged)
 
   -- the frame of its numbers is the table's line
   pub judgement-written : (rest : List ℕ) {now : List ℕ} {v : Verdict} {heavy h : ℕ}

@@ -17,7 +17,7 @@ use Rattle.reading_laws.proofs.Files.{written-read}
 use Rattle.tables.specs.Views.{view, pack, withoutTable, tableAnswer}
 use Rattle.tables.specs.declared.table.Outcome.the-variants.{Taken, Refused}
 use Rattle.tables.specs.declared.table.TableAnswer.{TableAnswer}
-use Rattle.tables.proofs.Views.{view-pack}
+use Rattle.tables.proofs.Views.{view-pack, taken-of, refused-of}
 use Rattle.machine.specs.Tables.{Opened}
 use Rattle.machine.proofs.Starting.{opened}
 use Rattle.reports.specs.Texts.{reportLength}
@@ -48,18 +48,6 @@ pub reply-answer : (x : Answer Rules.Table) → replyTo (tableAnswer x) ≡ repl
 unfolding replyTo tableAnswer withoutTable
 reply-answer (taken tbl) = ap (λ (t : Rules.Table). reply (taken t)) (view-pack tbl)
 reply-answer (refused r l) = refl
-
--- a struct with a table
-taken-of : (x : Answer Rules.Table) → tableAnswer x .outcome ≡ Taken → (tbl : Rules.Table) × (x ≡ taken tbl) × (tableAnswer x .table ≡ pack tbl)
-unfolding tableAnswer withoutTable
-taken-of (taken tbl) e = (tbl, refl, refl)
-taken-of (refused r l) e = let z : _≡_ {A = ℕ} 0 1 = cc in absurd (omega arith)
-
--- a struct with a refusal
-refused-of : (x : Answer Rules.Table) {r : Refusal} {l : ℕ} → tableAnswer x .outcome ≡ Refused r l → x ≡ refused r l
-unfolding tableAnswer withoutTable
-refused-of (taken tbl) e = let z : _≡_ {A = ℕ} 0 1 = cc in absurd (omega arith)
-refused-of (refused r l) e = cc
 
 -- a text at the front of a buffer, by another name
 at-front : (out : List ℕ) {a b : List ℕ} {n : ℕ} → a ≡ b → length b ≡ n → b ++ drop n out ≡ a ++ drop (length a) out

@@ -10,7 +10,7 @@ use borrow.Rule.Slice.PartMut.{putMid}
 use lib.Dec.{ltb}
 use lib.ListN.{length, take, drop, length-append}
 use lib.Seq.{take-all}
-use Rattle.laws.proofs.Tests.{decide}
+use Rattle.laws.proofs.Tests.{never, decide}
 use Rattle.rules.specs.Limits.{inputMax}
 use Rattle.rules.specs.Refusals.{Answer, taken, refused, numberOf}
 use Rattle.rules.specs.Tables as Rules
@@ -98,7 +98,7 @@ module _ (input out : List ℕ) (room : textMax ≤ length out) {r : WriteAnswer
 
   -- is never refused
   pub never-refused : {x : Refusal} → r ≡ Refused x → ⊥
-  never-refused e = let z : _≡_ {A = ℕ} 0 1 = cc answer-is in omega arith
+  never-refused e = never (cc answer-is)
 
   -- and gets all of it
   pub printed : {n : ℕ} → r ≡ Written n → Printed input out n out′

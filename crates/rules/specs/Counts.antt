@@ -1,7 +1,7 @@
 -- The counts of a run, read off its slots alone: the placings of slots 0, 1, .. of a table's run from the fresh state.
 use Prim.Native.Nat.{ℕ, zero, suc, _+_, _-_}
 use mathlib.Core.Bool.{Bool, cond, not, _&&_}
-use mathlib.Core.List.{List, []}
+use mathlib.Core.List.{List}
 use lib.Dec.{eqb, ltb}
 use Rattle.laws.specs.Lists.{count, numbers, at, position}
 use Rattle.rules.specs.Rows.{Row, due, demand}

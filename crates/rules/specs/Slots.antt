@@ -1,7 +1,7 @@
 -- One slot (000, section 1): release, choose, place, effect.
 use Prim.Native.Nat.{ℕ, suc, _+_, _-_}
 use mathlib.Core.Bool.{Bool, cond, not, _&&_}
-use mathlib.Core.List.{List, []}
+use mathlib.Core.List.{List}
 use lib.Dec.{eqb, ltb}
 use lib.ListN.{take, set, replicate}
 use Rattle.laws.specs.Lists.{filter, count, foldl, numbers, each, at, position}

@@ -4,9 +4,8 @@ use Prim.Native.Nat.{ℕ}
 use mathlib.Core.Path.{_≡_, refl, ap, _∙_}
 use mathlib.Core.Bool.{true}
 use mathlib.Core.List.{List}
-use native.Mathlib.Omega.{arith}
 use lib.Dec.{T}
-use Rattle.laws.proofs.Tests.{and-left, and-right, to-T}
+use Rattle.laws.proofs.Tests.{never, and-left, and-right, to-T}
 use Rattle.rules.specs.Refusals.{Answer, taken, refused}
 use Rattle.rules.specs.States as States
 use Rattle.rules.specs.Forms.{wellFormed}
@@ -40,8 +39,7 @@ unfolding stateAnswer
 taken-of (taken st) s e = (st, refl, ap (λ (x : StateAnswer). x .state) e)
 taken-of (refused r l) s e =
     let o : Refused r ≡ Taken = ap (λ (x : StateAnswer). x .outcome) e in
-    let z : _≡_ {A = ℕ} 0 1 = cc in
-    absurd (omega arith)
+    never cc
 
 -- what is loaded as a struct stores as the same bytes, and is well formed
 pub bytes-back : (bs : List ℕ) → Bytes bs → (s : State) → stateAnswer (load bs) ≡ takes s → (store (view s) ≡ bs) × T (formed s)

@@ -5,6 +5,7 @@ use mathlib.Core.Bool.{Bool, true, false, cond, _||_}
 use native.Mathlib.Omega.{arith}
 use lib.Dec.{ltb}
 use borrow.Author.Tests.{lt-ltb, le-ltb, ltb-true, ltb-false}
+use Rattle.laws.proofs.Tests.{never}
 use Rattle.rules.specs.Limits.{coresMin, coresMax, tasksMin, tasksMax, repeatMax}
 use Rattle.rules.specs.Tables.{outside}
 use Rattle.rules.specs.Kinds.{coresOf, tasksOf, repeatOf}
@@ -27,22 +28,22 @@ passed false x y z e n = (refl, e)
 
 -- m is outside its bounds
 pub cores-outside : (m : ℕ) → coresOf m ≡ Cored.Outside → outside m coresMin coresMax ≡ true
-cores-outside m e = chosen (outside m coresMin coresMax) _ _ _ e (λ q. let z : _≡_ {A = ℕ} 0 1 = cc in omega arith)
+cores-outside m e = chosen (outside m coresMin coresMax) _ _ _ e (λ q. never cc)
 
 -- m is within them
 pub cores-within : (m : ℕ) (x : Cores) → coresOf m ≡ Cored.Within x → (outside m coresMin coresMax ≡ false) × (record { 0 = m } ≡ x)
 cores-within m x e =
-    let p = passed (outside m coresMin coresMax) _ _ _ e (λ q. let z : _≡_ {A = ℕ} 0 1 = cc in omega arith) in
+    let p = passed (outside m coresMin coresMax) _ _ _ e (λ q. never cc) in
     (p .0, (let q = p .1 in cc))
 
 -- n is outside its bounds
 pub tasks-outside : (n : ℕ) → tasksOf n ≡ Tasked.Outside → outside n tasksMin tasksMax ≡ true
-tasks-outside n e = chosen (outside n tasksMin tasksMax) _ _ _ e (λ q. let z : _≡_ {A = ℕ} 0 1 = cc in omega arith)
+tasks-outside n e = chosen (outside n tasksMin tasksMax) _ _ _ e (λ q. never cc)
 
 -- n is within them
 pub tasks-within : (n : ℕ) (x : Tasks) → tasksOf n ≡ Tasked.Within x → (outside n tasksMin tasksMax ≡ false) × (record { 0 = n } ≡ x)
 tasks-within n x e =
-    let p = passed (outside n tasksMin tasksMax) _ _ _ e (λ q. let z : _≡_ {A = ℕ} 0 1 = cc in omega arith) in
+    let p = passed (outside n tasksMin tasksMax) _ _ _ e (λ q. never cc) in
     (p .0, (let q = p .1 in cc))
 
 -- a positive number is a repeat length up to the bound
@@ -60,7 +61,7 @@ neither false b e = (refl, e)
 -- what an answer says: H is within its bounds
 pub repeat-taken : (h : ℕ) (x : Repeat) → repeatOf h ≡ Repeated.Within x → Reached x × (record { 0 = h } ≡ x)
 repeat-taken h x e =
-    let p = passed (outside h 1 repeatMax) _ _ _ e (λ q. let z : _≡_ {A = ℕ} 0 1 = cc in omega arith) in
+    let p = passed (outside h 1 repeatMax) _ _ _ e (λ q. never cc) in
     let w = p .1 in
     let same : record { 0 = h } ≡ x = cc in
     let in-bounds = neither (ltb h 1) (ltb repeatMax h) (p .0) in
@@ -69,5 +70,5 @@ repeat-taken h x e =
 -- or above its bound
 pub repeat-refused : (h : ℕ) → 0 < h → repeatOf h ≡ Repeated.Outside → repeatMax < h
 repeat-refused h low e =
-    let p = chosen (outside h 1 repeatMax) _ _ _ e (λ q. let z : _≡_ {A = ℕ} 0 1 = cc in omega arith) in
+    let p = chosen (outside h 1 repeatMax) _ _ _ e (λ q. never cc) in
     ltb-true repeatMax h (rw (le-ltb h 1 low) at p)

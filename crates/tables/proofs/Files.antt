@@ -7,6 +7,7 @@ use native.Mathlib.Numerals.{add-one}
 use native.Mathlib.Omega.{arith}
 use lib.ListN.{length, drop, set, length-append, length-drop, drop-of-length-le}
 use lib.Seq.{drop-drop, drop-cons, append-snoc}
+use Rattle.laws.proofs.Tests.{never}
 use Rattle.rules.specs.Refusals.{Answer, taken, refused, andThen, settle}
 use Rattle.rules.specs.Rows as Rows
 use Rattle.rules.specs.Tables as Tables
@@ -21,7 +22,7 @@ use Rattle.tables.specs.declared.table.Row.{Row}
 use Rattle.tables.specs.declared.table.Outcome.the-variants as Outcome
 use Rattle.tables.specs.declared.row.RowAnswer.the-variants.{Good, Refused}
 use Rattle.tables.specs.declared.header.HeaderAnswer.the-variants as Header
-use Rattle.tables.proofs.Views.{pack-more, view-pack, packed-formed}
+use Rattle.tables.proofs.Views.{pack-more, view-pack, packed-formed, taken-of, refused-of}
 use Rattle.tables.proofs.Rows.{row-taken, row-refused}
 use Rattle.tables.proofs.Headers.{Headed, header-refused}
 
@@ -107,7 +108,7 @@ module _ (s : List ℕ) (n : ℕ) where
 
 taken-from : {A B : Type 0} (a : Answer A) {f : A → Answer B} {b : B} → andThen a f ≡ taken b → (x : A) × (a ≡ taken x) × (f x ≡ taken b)
 taken-from (taken x) e = (x, refl, e)
-taken-from (refused r l) {b = b} e = let z : _≡_ {A = ℕ} 0 1 = cc in absurd (omega arith)
+taken-from (refused r l) {b = b} e = never cc
 
 taken-same : {A : Type 0} {x y : A} → _≡_ {A = Answer A} (taken x) (taken y) → x ≡ y
 taken-same e = cc
@@ -173,7 +174,7 @@ module _ (s : List ℕ) (m n : ℕ) (h : Headed s m n) where
   rows-are : (a : Answer (Read (List Rows.Row))) → readRows 2 n body ≡ a → rowsRead a .outcome ≡ Outcome.Taken → Taken (rowsRead a .rows)
   unfolding rowsRead rowsAnswer withoutRows
   rows-are (taken rs) p e = record { rs = rs; read = p; packed = refl }
-  rows-are (refused x k) p e = let z : _≡_ {A = ℕ} 0 1 = cc in absurd (omega arith)
+  rows-are (refused x k) p e = never cc
 
   module _ (e : rowsRead (readRows 2 n body) .outcome ≡ Outcome.Taken) where
     rows : Taken (rowsRead (readRows 2 n body) .rows)
@@ -200,24 +201,14 @@ module _ (s : List ℕ) (m n : ℕ) (h : Headed s m n) where
 
 -- the lines are refused
 pub file-stops : (s : List ℕ) (x : Refusal) (k : ℕ) → tableAnswer (readLines s) .outcome ≡ Outcome.Refused x k → withoutTable (Outcome.Refused x k) ≡ tableAnswer (readFile s)
-unfolding readFile tableAnswer withoutTable
-file-stops s x k e = by-cases (readLines s) e
-  where
-    by-cases : (a : Answer Tables.Table) → tableAnswer a .outcome ≡ Outcome.Refused x k
-        → withoutTable (Outcome.Refused x k) ≡ tableAnswer (andThen a (λ tbl. settle (Tables.wholeTests (tbl .rows)) tbl))
-    by-cases (taken tbl) e = cc
-    by-cases (refused y j) e = ap withoutTable (sym e)
+unfolding readFile tableAnswer
+file-stops s x k e = rw (refused-of (readLines s) e)
 
 -- the lines are taken, and the tests of all rows are left
 pub file-goes-on : (s : List ℕ) → tableAnswer (readLines s) .outcome ≡ Outcome.Taken
     → Formed (tableAnswer (readLines s) .table)
     × (tableAnswer (settle (Tables.wholeTests (view (tableAnswer (readLines s) .table) .rows)) (view (tableAnswer (readLines s) .table))) ≡ tableAnswer (readFile s))
-unfolding readFile tableAnswer withoutTable
-file-goes-on s e = by-cases (readLines s) e
-  where
-    by-cases : (a : Answer Tables.Table) → tableAnswer a .outcome ≡ Outcome.Taken
-        → Formed (tableAnswer a .table)
-        × (tableAnswer (settle (Tables.wholeTests (view (tableAnswer a .table) .rows)) (view (tableAnswer a .table)))
-        ≡ tableAnswer (andThen a (λ tbl. settle (Tables.wholeTests (tbl .rows)) tbl)))
-    by-cases (taken tbl) e = (packed-formed tbl, rw (view-pack tbl))
-    by-cases (refused y j) e = let z : _≡_ {A = ℕ} 0 1 = cc in absurd (omega arith)
+unfolding readFile tableAnswer
+file-goes-on s e =
+    let found = taken-of (readLines s) e in
+    rw (found .1) (packed-formed (found .0), rw (view-pack (found .0)))

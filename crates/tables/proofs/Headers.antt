@@ -5,6 +5,7 @@ use mathlib.Core.List.{List}
 use mathlib.Core.Option.{Option, none, some}
 use native.Mathlib.Omega.{arith}
 use lib.ListN.{length, drop}
+use Rattle.laws.proofs.Tests.{never}
 use Rattle.laws.specs.Lists.{at}
 use Rattle.rules.specs.Limits.{tasksMax}
 use Rattle.rules.specs.Refusals.{Answer, taken, refused, andThen, first}
@@ -73,14 +74,10 @@ header-taken s m n e = by-cases (readFrame header s) refl e
         let tasks : at (h .got) 2 ≡ n = ap (λ (x : Tasks). x .0) en in
         let fine = header-iff (at (h .got) 1) (at (h .got) 2) .0 (none-passes (headerTests (at (h .got) 1) (at (h .got) 2)) p) in
         record { long = long; got = h .got; first-is = ap (λ (x : Cores). x .0) em; second-is = tasks; read = f ∙ rw (← q); tasks = omega (arith, fine .1 .most) }
-    by-test h (some x) p long q f e =
-        let z : _≡_ {A = ℕ} 0 1 = cc in
-        absurd (omega arith)
+    by-test h (some x) p long q f e = never cc
 
     by-cases : (o : Option (Read (List ℕ))) → readFrame header s ≡ o → headerRead (andThen (dueAt 1 o) tested) ≡ Good (record { 0 = m }) (record { 0 = n }) → Headed s m n
-    by-cases none q e =
-        let z : _≡_ {A = ℕ} 0 1 = cc in
-        absurd (omega arith)
+    by-cases none q e = never cc
     by-cases (some h) q e =
         let p = pair-rest s 1 2 h q in
         by-test h (first (headerTests (at (h .got) 1) (at (h .got) 2))) refl (p .0) (p .1) (rw q) e

@@ -8,6 +8,7 @@ use native.Mathlib.Numerals.{add-one}
 use native.Mathlib.Omega.{arith}
 use lib.ListN.{length, getD, take, drop, set, length-map, drop-of-length-le, List·getD-map}
 use lib.Seq.{length-take-le, take-suc, take-all, drop-cons}
+use Rattle.laws.proofs.Tests.{never}
 use Rattle.laws.specs.Lists.{join}
 use Rattle.rules.specs.Refusals.{first, settle, answered, passes}
 use Rattle.rules.specs.Rows as Rules
@@ -34,14 +35,14 @@ tested-good c t x e = by-cases (first (rowTests (record { c = c; t = t }))) e
   where
     by-cases : (o : Option Refusal) → rowAnswer (atLine 0 o (record { c = c; t = t })) ≡ Good x → (o ≡ none) × (record { c = c; t = t } ≡ x)
     by-cases none e = (refl, cc)
-    by-cases (some y) e = let z : _≡_ {A = ℕ} 0 1 = cc in absurd (omega arith)
+    by-cases (some y) e = never cc
 
 tested-bad : (c t : ℕ) (x : Refusal) (k : ℕ) → rowAnswer (testRow c t 0) ≡ Refused x k → (first (rowTests (record { c = c; t = t })) ≡ some x) × (k ≡ 0)
 unfolding testRow
 tested-bad c t x k e = by-cases (first (rowTests (record { c = c; t = t }))) e
   where
     by-cases : (o : Option Refusal) → rowAnswer (atLine 0 o (record { c = c; t = t })) ≡ Refused x k → (o ≡ some x) × (k ≡ 0)
-    by-cases none e = let z : _≡_ {A = ℕ} 0 1 = cc in absurd (omega arith)
+    by-cases none e = never cc
     by-cases (some y) e = (cc, cc)
 
 -- the first i rows have passed, and stand at the front of the array
@@ -110,7 +111,7 @@ unfolding testHeader
 header-bad m n x k e = by-cases (first (headerTests m n)) e
   where
     by-cases : (o : Option Refusal) → headerAnswer (atLine 0 o (record { m = m; n = n })) ≡ Header.Refused x k → (o ≡ some x) × (k ≡ 0)
-    by-cases none e = let z : _≡_ {A = ℕ} 0 1 = cc in absurd (omega arith)
+    by-cases none e = never cc
     by-cases (some y) e = (cc, cc)
 
 pub record HeaderPassed (m n : ℕ) (a : Cores) (b : Tasks) : Type 0 where
@@ -125,7 +126,7 @@ header-good m n a b e = by-cases (first (headerTests m n)) refl e
   where
     by-cases : (o : Option Refusal) → first (headerTests m n) ≡ o → headerAnswer (atLine 0 o (record { m = m; n = n })) ≡ Header.Good a b → HeaderPassed m n a b
     by-cases none p e = record { passed = none-passes (headerTests m n) p; cores = cc; tasks = cc }
-    by-cases (some y) p e = let z : _≡_ {A = ℕ} 0 1 = cc in absurd (omega arith)
+    by-cases (some y) p e = never cc
 
 -- a list that passed has at most 64 rows
 pub few-tasks : (m n : ℕ) → T (passes (headerTests m n)) → n ≤ 64
@@ -160,7 +161,7 @@ module _ (m : ℕ) (list : List (List ℕ)) where
       where
         by-cases : (o : Option Refusal) → first (join (map rowTests rows-of)) ≡ o → rowsAnswer (answered o rows-of) .outcome ≡ Outcome.Refused x k
             → withoutTable (Outcome.Refused x k) ≡ tableAnswer (takeList m rows-of)
-        by-cases none q e = let z : _≡_ {A = ℕ} 0 1 = cc in absurd (omega arith)
+        by-cases none q e = cc
         by-cases (some y) q e =
             rw (after-header, first-stays (join (map rowTests rows-of)) (wholeTests rows-of) y q) (ap withoutTable (sym e))
 
@@ -174,7 +175,7 @@ module _ (m : ℕ) (list : List (List ℕ)) where
             → (rowsAnswer (answered o rows-of) .rows ≡ packRows rows-of) × (takeList m rows-of ≡ settle (wholeTests rows-of) (record { m = m; rows = rows-of }))
         by-cases none q e =
             (refl, rw (after-header, first-passed (join (map rowTests rows-of)) (wholeTests rows-of) (none-passes (join (map rowTests rows-of)) q)))
-        by-cases (some y) q e = let z : _≡_ {A = ℕ} 0 1 = cc in absurd (omega arith)
+        by-cases (some y) q e = never cc
 
   -- the struct of the table
   pub list-table : (a : Cores) (b : Tasks) (rows : List Row) → HeaderPassed m (length list) a b → rows ≡ packRows rows-of

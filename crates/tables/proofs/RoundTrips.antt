@@ -3,19 +3,17 @@ use Prim.Native.Nat.{ℕ, _+_, _≤_}
 use mathlib.Core.Path.{_≡_, refl, sym, ap, ap₂, _∙_}
 use mathlib.Core.Bool.{true, not, _&&_}
 use mathlib.Core.List.{List, [], _∷_, _++_}
-use native.Mathlib.Omega.{arith}
-use borrow.Author.Tests.{le-ltb}
 use denote.Ref.{now}
 use lib.Dec.{T, ltb, nltb→le}
 use lib.ListN.{length, take, drop}
 use Rattle.rules.specs.Refusals.{Test, Answer, taken, refused, passes}
 use Rattle.rules.specs.Rows as Rules
-use Rattle.laws.proofs.Tests.{and-T, and-left, and-right}
+use Rattle.laws.proofs.Tests.{and-left, and-right}
 use Rattle.rules.specs.Tables as Tables
 use Rattle.rules.specs.Tables.{listTests, accepts}
 use Rattle.rules.specs.Files.{text, readFile}
 use Rattle.rules.specs.Answers.{lay, roomTest, writeList}
-use Rattle.reading_laws.proofs.Tests.{passes-append, settle-taken, settle-passes}
+use Rattle.reading_laws.proofs.Tests.{passes-append, settle-taken}
 use Rattle.reading_laws.proofs.Files.{read-written, written-read}
 use Rattle.tables.specs.Views.{pack, view, withoutTable, tableAnswer}
 use Rattle.tables.specs.Lists.{listRows}
@@ -26,6 +24,8 @@ use Rattle.tables.specs.declared.table.TableAnswer.{TableAnswer}
 use Rattle.tables.specs.declared.write.WriteAnswer.{WriteAnswer}
 use Rattle.tables.specs.declared.write.WriteAnswer.the-variants.{Written, Refused}
 use Rattle.tables.proofs.Views.{view-pack}
+use Rattle.tables.proofs.Written.{text-laid}
+use Rattle.tables.proofs.Writes.{list-written}
 use Rattle.reading_laws.proofs.Lays.{lay-holds}
 use Rattle.tables.proofs.file.read_file.Reads as read-file
 use Rattle.tables.proofs.write.write_list.Reads as write-list
@@ -77,13 +77,10 @@ write-what-was-read s t e out place fits = by-cases (readFile s) refl e
         let same : t ≡ pack tbl = ap (λ (a : TableAnswer). a .table) q in
         let says : view t ≡ tbl = ap view same ∙ view-pack tbl in
         let w = written-read s tbl p in
-        let file : List ℕ = text tbl in
-        let room : List Test = roomTest out place (length file) ∷ [] in
-        let free : T (passes room) = rw (le-ltb (length out) (place + length file) (omega (arith, ap length (w .0)))) tt in
-        let passed : T (passes (listTests (tbl .m) (tbl .rows) ++ room)) =
-        rw passes-append (and-T (passes (listTests (tbl .m) (tbl .rows))) (passes room) (w .1) free)
-        in
-        rw (says, settle-passes (listTests (tbl .m) (tbl .rows) ++ room) (lay out place file) passed, w .0)
+        ap (λ (x : Tables.Table). writtenList (x .m) (x .rows) out place) says
+        ∙ sym (list-written (tbl .m) (tbl .rows) (w .1) out place)
+        ∙ text-laid out place (text tbl) (length s) (ap length (sym (w .0))) fits
+        ∙ ap (λ (l : List ℕ). made (Written (length s)) (lay out place l)) (sym (w .0))
     by-cases (refused r l) p q =
         let outcome : Outcome.Taken ≡ Outcome.Refused r l = ap (λ (a : TableAnswer). a .outcome) q in
         cc

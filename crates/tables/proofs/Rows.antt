@@ -3,8 +3,8 @@ use Prim.Native.Nat.{ℕ, _≤_}
 use mathlib.Core.Path.{_≡_, refl}
 use mathlib.Core.List.{List}
 use mathlib.Core.Option.{Option, none, some}
-use native.Mathlib.Omega.{arith}
 use lib.ListN.{length, drop}
+use Rattle.laws.proofs.Tests.{never}
 use Rattle.laws.specs.Lists.{at}
 use Rattle.rules.specs.Refusals.{Answer, taken, refused, andThen, first}
 use Rattle.rules.specs.Rows as Rules
@@ -66,7 +66,7 @@ row-taken l s r e = by-cases (readFrame row s) refl e
 
     by-cases : (o : Option (Read (List ℕ))) → readFrame row s ≡ o → rowRead (andThen (dueAt l o) (tested l)) ≡ Good r
         → (11 ≤ length s) × (andThen (dueAt l o) (tested l) ≡ taken (record { got = viewRow r; rest = drop 11 s }))
-    by-cases none q e = let z : _≡_ {A = ℕ} 0 1 = cc in absurd (omega arith)
+    by-cases none q e = never cc
     by-cases (some a) q e =
         let p = pair-rest s 2 4 a q in
         (p .0, by-test (first (rowTests _)) (record { got = record { c = at (a .got) 1; t = at (a .got) 2 }; rest = a .rest }) (p .1) e)

@@ -1,4 +1,4 @@
--- The rows that a struct says, and the struct that says them.
+-- The table that a struct says, and the struct that says it; what the struct of an answer says.
 use Prim.Native.Nat.{ℕ, _-_, _<_, min}
 use mathlib.Core.Path.{_≡_, refl, ap, _∙_}
 use mathlib.Core.List.{List, [], _∷_, _++_, map}
@@ -8,12 +8,16 @@ use lib.Seq.{getD-take, take-at}
 use mir.Val.{Val}
 use denote.Laws.{Is}
 use denote.Struct.Declared.{row}
+use Rattle.laws.proofs.Tests.{never}
 use Rattle.laws.proofs.Fronts.{front-more}
+use Rattle.rules.specs.Refusals.{Answer, taken, refused}
 use Rattle.rules.specs.Rows as Rows
 use Rattle.rules.specs.Tables as Tables
-use Rattle.tables.specs.Views.{packRow, viewRow, zeroRow, packRows, pack, view, Formed}
+use Rattle.tables.specs.Views.{packRow, viewRow, zeroRow, packRows, pack, view, Formed, withoutTable, tableAnswer}
 use Rattle.tables.specs.declared.table.Row.{Row}
 use Rattle.tables.specs.declared.table.Table.{Table}
+use Rattle.tables.specs.declared.table.Outcome.the-variants.{Taken, Refused}
+use Rattle.rules.specs.declared.refusal.Refusal.{Refusal}
 use Rattle.tables.proofs.table.Table as TableType
 
 -- a struct that a function is handed has 64 rows
@@ -52,3 +56,17 @@ view-pack tbl =
 -- and it is well formed
 pub packed-formed : (tbl : Tables.Table) → Formed (pack tbl)
 packed-formed tbl = ap pack (view-pack tbl)
+
+-- ---- what the struct of an answer says
+
+-- a table
+pub taken-of : (a : Answer Tables.Table) → tableAnswer a .outcome ≡ Taken → (tbl : Tables.Table) × (a ≡ taken tbl) × (tableAnswer a .table ≡ pack tbl)
+unfolding tableAnswer withoutTable
+taken-of (taken tbl) e = (tbl, refl, refl)
+taken-of (refused r l) e = never cc
+
+-- a refusal
+pub refused-of : (a : Answer Tables.Table) {r : Refusal} {l : ℕ} → tableAnswer a .outcome ≡ Refused r l → a ≡ refused r l
+unfolding tableAnswer withoutTable
+refused-of (taken tbl) e = cc
+refused-of (refused r l) e = cc

@@ -1,8 +1,7 @@
 -- Writing a table's text line by line, each line through the lent tail.
 use Prim.Native.Nat.{ℕ, _+_, _-_, _*_, _≤_, _<_}
-use mathlib.Core.Path.{_≡_, refl, ap, _∙_}
+use mathlib.Core.Path.{_≡_, refl, sym, ap, _∙_}
 use mathlib.Core.List.{List, [], _∷_, _++_, map, map-append}
-use mathlib.Core.Option.{Option, none, some}
 use native.Mathlib.Numerals.{add-one}
 use native.Mathlib.Omega.{arith}
 use borrow.Rule.Slice.PartMut.{midOf, putMid}
@@ -17,20 +16,20 @@ use Rattle.rules.specs.Tables.{noRow, listTests, takeList, accepts}
 use Rattle.rules.specs.Frames.{frame}
 use Rattle.rules.specs.Files.{headerLine, rowLine, text}
 use Rattle.rules.specs.Answers.{writeList}
-use Rattle.rules.specs.Refusals.{first, answered, passes}
+use Rattle.rules.specs.Refusals.{passes}
 use Rattle.rules.specs.declared.refusal.Refusal.{Refusal}
 use Rattle.rules.specs.declared.refusal.Refusal.the-variants.{NoRoom}
 use Rattle.reading_laws.proofs.Files.{length-rows, length-text}
-use Rattle.reading_laws.proofs.Tests.{first-passed, first-stays, none-passes, accepts-iff}
-use Rattle.tables.specs.Views.{zeroRow, pack, view, withoutTable, tableAnswer}
+use Rattle.reading_laws.proofs.Tests.{first-passed, first-stays, settle-taken, settle-refused, accepts-iff}
+use Rattle.tables.specs.Views.{zeroRow, pack, view, tableAnswer}
 use Rattle.tables.specs.Pairs.{pairShape}
 use Rattle.tables.specs.Writes.{made, wrote, wroteText, writtenList}
 use Rattle.tables.specs.declared.table.Table.{Table}
 use Rattle.tables.specs.declared.table.Outcome.the-variants as Outcome
 use Rattle.tables.specs.declared.write.WriteAnswer.the-variants.{Written, Refused}
-use Rattle.tables.proofs.Views.{row-view}
+use Rattle.tables.proofs.Views.{row-view, taken-of, refused-of}
 use Rattle.tables.proofs.Written.{text-short, text-written}
-use Rattle.reading_laws.proofs.Laying.{first as laid-first, more, laid-front, Pieces, next-piece, all-pieces}
+use Rattle.reading_laws.proofs.Laying.{first, more, laid-front, Pieces, next-piece, all-pieces}
 use Rattle.tables.proofs.Pairs.{length-pair}
 
 -- the lines of the first rows of a table
@@ -76,7 +75,7 @@ module _ (out : List ℕ) (t : Table) (room : 7 + 11 * length (view t .rows) ≤
       let n₁ : ℕ = length (view t .rows) in
       let top : List ℕ = frame (pairShape 1 2) (t .m .0 ∷ n ∷ []) in
       let lines : List ℕ = join (map rowLine (view t .rows)) in
-      let both = more out (laid-first out top 7 (length-pair 1 2 (t .m .0) n) head-is) lines (11 * n₁) (length-rows (view t .rows)) room rest-is in
+      let both = more out (first out top 7 (length-pair 1 2 (t .m .0) n) head-is) lines (11 * n₁) (length-rows (view t .rows)) room rest-is in
       let whole : top ++ lines ≡ text (view t) = rw counted in
       laid-front out both (7 + 11 * n₁) refl ∙ ap (λ (l : List ℕ). l ++ drop (7 + 11 * n₁) out) whole
 
@@ -89,26 +88,22 @@ module _ (m : ℕ) (rows : List Rules.Row) where
   -- a list that is refused
   pub list-refused : (out : List ℕ) (place : ℕ) (x : Refusal) (k : ℕ) → tableAnswer (takeList m rows) .outcome ≡ Outcome.Refused x k
       → made (Refused x) out ≡ writtenList m rows out place
-  unfolding takeList tableAnswer withoutTable writtenList writeList wrote
-  list-refused out place x k e = by-cases (first (listTests m rows)) refl e
-    where
-      by-cases : (o : Option Refusal) → first (listTests m rows) ≡ o → tableAnswer (answered o tbl) .outcome ≡ Outcome.Refused x k
-          → made (Refused x) out ≡ writtenList m rows out place
-      by-cases none q e = let z : _≡_ {A = ℕ} 0 1 = cc in absurd (omega arith)
-      by-cases (some y) q e =
-          let same : y ≡ x = cc in
-          rw (first-stays (listTests m rows) _ y q, same)
+  unfolding takeList writtenList writeList wrote
+  list-refused out place x k e = rw (first-stays (listTests m rows) _ x (settle-refused (listTests m rows) tbl (refused-of (takeList m rows) e)))
+
+  -- the text of one that passes is written, where there is room
+  pub list-written : T (passes (listTests m rows)) → (out : List ℕ) (place : ℕ) → wroteText out place (text tbl) ≡ writtenList m rows out place
+  unfolding wroteText writtenList writeList
+  list-written fine out place = rw (first-passed (listTests m rows) _ fine)
 
   -- a list that is taken
   module _ (e : tableAnswer (takeList m rows) .outcome ≡ Outcome.Taken) where
     passed : T (passes (listTests m rows)) × (tableAnswer (takeList m rows) .table ≡ pack tbl)
-    unfolding takeList tableAnswer withoutTable
-    passed = by-cases (first (listTests m rows)) refl e
-      where
-        by-cases : (o : Option Refusal) → first (listTests m rows) ≡ o → tableAnswer (answered o tbl) .outcome ≡ Outcome.Taken
-            → T (passes (listTests m rows)) × (tableAnswer (answered o tbl) .table ≡ pack tbl)
-        by-cases none q e = (none-passes (listTests m rows) q, refl)
-        by-cases (some y) q e = let z : _≡_ {A = ℕ} 0 1 = cc in absurd (omega arith)
+    unfolding takeList
+    passed =
+        let found = taken-of (takeList m rows) e in
+        let settled = settle-taken (listTests m rows) tbl (found .0) (found .1) in
+        (settled .0, found .2 ∙ ap pack (sym (settled .1)))
 
     -- the struct of the table
     pub taken-table : tableAnswer (takeList m rows) .table ≡ pack tbl
@@ -120,17 +115,12 @@ module _ (m : ℕ) (rows : List Rules.Row) where
     taken-few = accepts-iff tbl .0 (passed .0) .tasks .most
 
     module _ (out : List ℕ) (place : ℕ) where
-      -- its text is written, where there is room
-      text-for : wroteText out place (text tbl) ≡ writtenList m rows out place
-      unfolding wroteText writtenList writeList
-      text-for = rw (first-passed (listTests m rows) _ (passed .0))
-
       -- there is no room for the text
       pub no-room : length out < place + (7 + 11 * length rows) → made (Refused NoRoom) out ≡ writtenList m rows out place
-      no-room l = text-short out place (text tbl) (7 + 11 * length rows) (length-text tbl) l ∙ text-for
+      no-room l = text-short out place (text tbl) (7 + 11 * length rows) (length-text tbl) l ∙ list-written (passed .0) out place
 
       -- there is room, and the text is laid from the place on
       pub room-given : (tail : List ℕ) → place + (7 + 11 * length rows) ≤ length out
           → tail ≡ text tbl ++ drop (7 + 11 * length rows) (midOf place (length out - place) out)
           → made (Written (7 + 11 * length rows)) (putMid place (length out - place) out tail) ≡ writtenList m rows out place
-      room-given tail l e = text-written out place (text tbl) (7 + 11 * length rows) (length-text tbl) l tail e ∙ text-for
+      room-given tail l e = text-written out place (text tbl) (7 + 11 * length rows) (length-text tbl) l tail e ∙ list-written (passed .0) out place

@@ -9,7 +9,7 @@ use native.Mathlib.Omega.{arith}
 use lib.ListN.{length, getD, drop, drop-of-length-le}
 use lib.Seq.{drop-cons}
 use Rattle.laws.specs.Lists.{join}
-use Rattle.laws.proofs.Tests.{and-left, and-right}
+use Rattle.laws.proofs.Tests.{never, and-left, and-right}
 use Rattle.rules.specs.Refusals.{Test, first, refused, settle, answered, passes}
 use Rattle.rules.specs.Limits.{repeatMax}
 use Rattle.rules.specs.Kinds as Kinds
@@ -39,21 +39,15 @@ use Rattle.verdicts.specs.declared.table.TableTest.the-variants as Test
 -- none is refused where the outcome says so
 pub none-refused : (o : Option Refusal) → outcomeOf o ≡ Taken → o ≡ none
 none-refused none e = refl
-none-refused (some r) e =
-    let z : _≡_ {A = ℕ} 0 1 = cc in
-    absurd (omega arith)
+none-refused (some r) e = cc
 
 -- the one that the outcome names is refused
 pub one-refused : (o : Option Refusal) {r : Refusal} {l : ℕ} → outcomeOf o ≡ Refused r l → o ≡ some r
-one-refused none {r} {l} e =
-    let z : _≡_ {A = ℕ} 0 1 = cc in
-    absurd (omega arith)
+one-refused none {r} {l} e = cc
 one-refused (some s) {r} {l} e = cc
 
 answer-refused : (o : Option Refusal) (h : Repeat) {r : Refusal} {l : ℕ} → outcomeOf o ≡ Refused r l → Test.Refused r l ≡ testAnswer (answered o h)
-answer-refused none h {r} {l} e =
-    let z : _≡_ {A = ℕ} 0 1 = cc in
-    absurd (omega arith)
+answer-refused none h {r} {l} e = cc
 answer-refused (some s) h {r} {l} e = cc
 
 row-outcome-of : (o : Option Refusal) (r : Row) → rowOutcome (rowAnswer (atLine 0 o r)) ≡ outcomeOf o
@@ -173,15 +167,11 @@ module _ (t : Table) where
 -- taken: no test is failed, and H is the one told
 test-taken : (o : Option Refusal) (x : Repeat) {h : Repeat} → testAnswer (answered o x) ≡ Test.Taken h → (o ≡ none) × (x ≡ h)
 test-taken none x {h} e = (refl, cc)
-test-taken (some r) x {h} e =
-    let z : _≡_ {A = ℕ} 0 1 = cc in
-    absurd (omega arith)
+test-taken (some r) x {h} e = never cc
 
 -- refused: so is whatever else is asked after the same tests
 test-refused : {A : Type 0} (o : Option Refusal) (x : Repeat) (a : A) {r : Refusal} {l : ℕ} → testAnswer (answered o x) ≡ Test.Refused r l → answered o a ≡ refused r l
-test-refused none x a {r} {l} e =
-    let z : _≡_ {A = ℕ} 0 1 = cc in
-    absurd (omega arith)
+test-refused none x a {r} {l} e = cc
 test-refused (some s) x a {r} {l} e = cc
 
 -- a struct that passes all tests says a table in its bounds
