@@ -2,7 +2,7 @@
 use Prim.Native.Nat.{ℕ, zero, suc, _+_, _-_, _*_, _^_, _≤_, _<_, zero-le}
 use mathlib.Core.Path.{_≡_, refl, sym, ap, _∙_, subst}
 use mathlib.Core.List.{List, [], _∷_, _++_, append-nil, append-assoc}
-use native.Mathlib.Nat.{suc-mul, mul-le-mul-right}
+use native.Mathlib.Nat.{mul-comm, mul-le-mul-right}
 use native.Mathlib.Numerals.{add-one}
 use native.Mathlib.Omega.{arith}
 use borrow.Rule.Slice.PartMut.{putMid}
@@ -16,12 +16,11 @@ use Rattle.rules.specs.Tables.{Table, size}
 use Rattle.rules.specs.States.{State}
 use Rattle.rules.specs.Slots.{Shown, release, effect, slot}
 use Rattle.rules.specs.Runs.{after, shows, slotLine, slotLines}
-use Rattle.rules.specs.Answers.{lay}
 use Rattle.slot_laws.proofs.After.{after-suc, after-table}
 use Rattle.slot_laws.proofs.Forms.{Kept, formed-kept}
 use Rattle.slot_laws.proofs.Books.{slot-kept, after-kept}
 use Rattle.slot_laws.proofs.Lengths.{length-slotLine, length-slotLines, slot-width}
-use Rattle.reading_laws.proofs.Lays.{length-lay, lay-front, laid-on}
+use Rattle.reading_laws.proofs.Laying.{Pieces, no-piece, piece-fits, next-piece, all-pieces}
 use Rattle.frames.specs.Slots.{shownAs}
 use Rattle.engine.specs.Placing.{Idle}
 use Rattle.engine.specs.Step.{Stepped, stepped, releasedOn, stepOn, Ready, unitsOf, periodsOf, phasesIn, stepFrom, listsOf}
@@ -69,12 +68,10 @@ lines-suc (suc k) st =
 -- ---- after k slots of a run from a state
 
 pub record Run (st : State) (count : ℕ) (c t out₀ phase left last done dropped out : List ℕ) (moves misses place k : ℕ) : Type 0 where
-  pub within : k ≤ count
   pub state : stateOf (st .table .m) (st .clock + k) c t (st .ranks) (after k st .left) last done dropped moves misses ≡ after k st
   pub lefts : left ≡ release (st .table) (st .clock + k) (after k st .left)
   pub phases : phase ≡ phasesIn (st .table) (st .clock + k)
-  pub laid : out ≡ lay out₀ 0 (slotLines k st)
-  pub at-place : place ≡ k * frameLength (st .table .m)
+  pub frames : Pieces (λ i. slotLines i st) (frameLength (st .table .m)) count out₀ out place k
 
 -- the releases before the first slot
 released-now : {m clock count : ℕ} {c t ranks phase left last done dropped out : List ℕ} {moves misses : ℕ}
@@ -137,17 +134,9 @@ module _ {st : State} {count : ℕ} {c t phase₀ out₀ : List ℕ} (r : Runnab
     lefts-now : left ≡ release (tableOf m c t) (st .clock + k) (after k st .left)
     lefts-now = g .lefts ∙ ap (λ (x : Table). release x (st .clock + k) (after k st .left)) (sym table-same)
 
-    lines-length : length (slotLines k st) ≡ k * frameLength m
-    lines-length = length-slotLines k st
-
-    pub out-size : length out ≡ length out₀
-    out-size =
-        ap length (g .laid) ∙ length-lay out₀ 0 (slotLines k st) (omega (arith, lines-length, r .room, mul-le-mul-right {m = k} {n = count} (frameLength m) (g .within)))
-
     -- the next frame has its room
     pub place-room : k < count → place + frameLength m ≤ length out
-    place-room more =
-        omega (arith, r .room, g .at-place, suc-mul k (frameLength m), mul-le-mul-right {m = suc k} {n = count} (frameLength m) more, out-size)
+    place-room more = omega (arith, piece-fits (g .frames) more, g .frames .kept)
 
     -- what the next slot asks
     pub slot-ready : {w : ℕ} → w ≡ m → Ready w c t (st .ranks) phase left last done dropped
@@ -238,20 +227,15 @@ module _ {st : State} {count : ℕ} {c t phase₀ out₀ : List ℕ} (r : Runnab
       pub turn : {tail : List ℕ} {length-of : ℕ} → length-of ≡ frameLength m
           → tail ≡ slotLine (shownAs (st .clock + k) cores′ moved missed) ++ drop (frameLength (length cores′)) (take (length out - place) (drop place out))
           → Run st count c t out₀ phase′ left′ last′ done′ dropped′ (putMid place (length out - place) out tail) (moves + moved) (misses + missed) (place + length-of) (k + 1)
-      turn {tail} el w =
-          let line : List ℕ = slotLine (shownAs (st .clock + k) cores′ moved missed) in
+      turn el w =
+          let shown : Shown = shownAs (st .clock + k) cores′ moved missed in
+          let joined = ap (λ (i : ℕ). slotLines i st) (add-one k) ∙ lines-suc k st ∙ ap (λ (x : Shown). slotLines k st ++ slotLine x) (sym shown-next) in
           record {
-            within = omega arith;
             state = state-next;
             lefts = lefts-next;
             phases = phases-next;
-            laid =
-                laid-on out₀ 0 (slotLines k st) out (g .laid) place (omega (arith, lines-length, g .at-place)) (frameLength (length cores′)) line tail
-                (length-slotLine (shownAs (st .clock + k) cores′ moved missed))
-                (omega (arith, place-room more, cores-wide, out-size))
-                w
-                ∙ ap (lay out₀ 0) (ap (λ (l : List ℕ). slotLines k st ++ l) (ap slotLine shown-next) ∙ sym (lines-suc k st) ∙ rw (add-one k));
-            at-place = rw (add-one k, suc-mul k) (omega (arith, g .at-place, el));
+            frames =
+                rw el (next-piece (g .frames) more (slotLine shown) (length-slotLine shown ∙ ap frameLength cores-wide) joined (rw cores-wide at w));
           }
 
     -- every list keeps its length
@@ -291,24 +275,22 @@ module _ {st : State} {count : ℕ} {c t phase₀ out₀ : List ℕ} (r : Runnab
     pub ended : count ≤ k → (n : ℕ) {left″ : List ℕ} → left″ ≡ releasedOn (take n zeros) phase left
         → RanSlots st count out₀ (stateOf m (st .clock + count) c t (st .ranks) left″ last done dropped moves misses) phase out
     ended h n e =
-        let all : k ≡ count = omega (arith, g .within) in
+        let all : k ≡ count = omega (arith, g .frames .within) in
         record {
           state = rw all at (ap (λ (l : List ℕ). stateOf m (st .clock + k) c t (st .ranks) l last done dropped moves misses) (left-back n e) ∙ g .state);
           phases = rw all at (g .phases);
-          lines = g .laid ∙ lay-front out₀ (slotLines k st) ∙ rw (lines-length, all);
+          lines = all-pieces (g .frames) h ∙ ap (λ (n : ℕ). slotLines count st ++ drop n out₀) (mul-comm (frameLength m) count);
         }
 
 -- no slot was run yet
 pub start : {m clock count : ℕ} {c t ranks phase left last done dropped : List ℕ} (out : List ℕ) {moves misses : ℕ} → Runnable (stateOf m clock c t ranks left last done dropped moves misses) count c t phase out → {left₁ : List ℕ} → left₁ ≡ releasedOn c phase left
     → Run (stateOf m clock c t ranks left last done dropped moves misses) count c t out phase left₁ last done dropped out moves misses 0 0
-unfolding after slotLines shows lay
-start {m} {clock} {c = c} {t} {ranks} {left = left} {last} {done} {dropped} out {moves} {misses} r e =
+unfolding after slotLines shows
+start {m} {clock} {count} {c} {t} {ranks} {left = left} {last} {done} {dropped} out {moves} {misses} r e =
     let now : clock + 0 ≡ clock = omega arith in
     record {
-      within = zero-le;
       state = ap (λ (s : ℕ). stateOf m s c t ranks left last done dropped moves misses) now;
       lefts = e ∙ released-now r ∙ ap (λ (s : ℕ). release (tableOf m c t) s left) (sym now);
       phases = r .phases ∙ ap (phasesIn (tableOf m c t)) (sym now);
-      laid = refl;
-      at-place = omega arith;
+      frames = no-piece refl (omega (arith, r .room, mul-comm (frameLength m) count));
     }

@@ -4,7 +4,7 @@ use mathlib.Core.Path.{sym, ap, _∙_}
 use lib.ListN.{length}
 use lib.Seq.{length-take-le}
 use Rattle.runs.specs.Slots.{stateOf}
-use Rattle.runs.proofs.SlotLoop.{zeros-front, Run, few-tasks, lengths, before, told, still, few-cores, start, place-room, slot-ready, front-placing, front-long, frame-room, moves-fit, misses-fit, turn, last-lengths, left-end, ended, last-size, done-size, dropped-size, phase-size, out-size}
+use Rattle.runs.proofs.SlotLoop.{zeros-front, Run, few-tasks, lengths, before, told, still, few-cores, start, place-room, slot-ready, front-placing, front-long, frame-room, moves-fit, misses-fit, turn, last-lengths, left-end, ended, last-size, done-size, dropped-size, phase-size}
 use native.Mathlib.Omega.{arith}
 use Rattle.runs.proofs.slots.run_slots.Statement.{statement}
 use Rattle.runs.proofs.slots.run_slots.Tie as tie
@@ -77,7 +77,7 @@ part-write-slot-end c =
 add-write-slot : tie.Need-add-write-slot Inv-loop μ-loop
 add-write-slot c =
     let at = looped (c .before .before .before .before .before .before .before .before .before .before .before .before) .before in
-    omega (arith, begun at .pre .in-time, at .loop .inv .within)
+    omega (arith, begun at .pre .in-time, at .loop .inv .frames .within)
 
 array-share-prefix-cores : tie.Need-array-share-prefix-cores Inv-loop μ-loop
 array-share-prefix-cores c =
@@ -127,7 +127,7 @@ add-place c =
     let loop = looped (slotted (c .before .before .before .before)) in
     let at = loop .before in
     let run = still (begun at .pre) (freed at .release .ensures) in
-    omega (arith, place-room run (at .loop .inv) (loop .loop-test .taken), out-size run (at .loop .inv), framed at .frame-length .ensures, begun at .good)
+    omega (arith, place-room run (at .loop .inv) (loop .loop-test .taken), at .loop .inv .frames .kept, framed at .frame-length .ensures, begun at .good)
 
 add-k : tie.Need-add-k Inv-loop μ-loop
 add-k c =
@@ -194,9 +194,7 @@ same-length-5 c =
 
 same-length-6 : tie.Need-same-length-6 Inv-loop μ-loop
 same-length-6 c =
-    let loop = c .before .before .before .before .before .before .before in
-    let pre = still (begun loop .pre) (freed loop .release .ensures) in
-    out-size pre (loop .loop .inv)
+    c .before .before .before .before .before .before .before .loop .inv .frames .kept
 
 returns : tie.Need-returns Inv-loop μ-loop
 returns c =
