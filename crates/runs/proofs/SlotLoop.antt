@@ -1,5 +1,5 @@
 -- The loop over the slots of a run: after k of them.
-use Prim.Native.Nat.{ℕ, zero, suc, _+_, _-_, _*_, _^_, _≤_, _<_, zero-le}
+use Prim.Native.Nat.{ℕ, zero, suc, _+_, _-_, _^_, _≤_, _<_}
 use mathlib.Core.Path.{_≡_, refl, sym, ap, _∙_, subst}
 use mathlib.Core.List.{List, [], _∷_, _++_, append-nil, append-assoc}
 use native.Mathlib.Nat.{mul-comm, mul-le-mul-right}
@@ -19,7 +19,7 @@ use Rattle.rules.specs.Runs.{after, shows, slotLine, slotLines}
 use Rattle.slot_laws.proofs.After.{after-suc, after-table}
 use Rattle.slot_laws.proofs.Forms.{Kept, formed-kept}
 use Rattle.slot_laws.proofs.Books.{slot-kept, after-kept}
-use Rattle.slot_laws.proofs.Lengths.{length-slotLine, length-slotLines, slot-width}
+use Rattle.slot_laws.proofs.Lengths.{length-slotLine, slot-width}
 use Rattle.reading_laws.proofs.Laying.{Pieces, no-piece, piece-fits, next-piece, all-pieces}
 use Rattle.frames.specs.Slots.{shownAs}
 use Rattle.engine.specs.Placing.{Idle}
