@@ -1,8 +1,11 @@
 -- `slots::main` meets its contract: what is written out is the part of the buffer that holds the text.
 use mathlib.Core.Path.{sym}
-use native.Mathlib.Omega.{arith}
+use Prim.Native.Nat.{ℕ}
+use native.Mathlib.Nat.{le-of-eq}
+use lib.ListN.{length-replicate}
 use lib.Seq.{length-take-le}
 use borrow.Author.Needs.{needs}
+use Rattle.reports.specs.Reports.{textMax}
 use Rattle.reports.proofs.Reporting.{printed-inside}
 use Rattle.slots.proofs.main.Statement.{statement}
 use Rattle.slots.proofs.main.Tie as tie
@@ -23,7 +26,7 @@ slice-aggregate-text-2 : tie.Need-slice-aggregate-text-2
 slice-aggregate-text-2 c = search needs
 
 text-requires : tie.Need-text-requires
-text-requires c κs = omega arith
+text-requires c κs = le-of-eq (sym (length-replicate {A = ℕ} textMax 0))
 
 array-share-prefix-out : tie.Need-array-share-prefix-out
 array-share-prefix-out c = printed-inside (c .before .text .ensures)
