@@ -15,6 +15,9 @@ ghost use Rattle.tables.specs.Writes.{made, wrote};
 ghost use Rattle.machine.specs.Views.{view, formed};
 ghost use Rattle.machine.specs.Answers.{asked};
 
+// How many bytes the frame takes.
+pub const TOTALS_LENGTH: usize = 51;
+
 // The frame at the front of the lent part; nothing after it differs.
 fn write_frame(out: &mut [u8], moves: u64, misses: u64, dropped: u64)
     requires { ⌜ 51 ≤ length (now out) ⌝ }
@@ -52,9 +55,9 @@ pub fn write_totals(s: State, out: &mut [u8], at: usize) -> WriteAnswer
     if out.len() < at {
         return WriteAnswer::Refused(Refusal::NoRoom);
     }
-    if out.len() - at < 51 {
+    if out.len() - at < TOTALS_LENGTH {
         return WriteAnswer::Refused(Refusal::NoRoom);
     }
     write_frame(&mut out[at..], s.moves, s.misses, dropped_units(s));
-    WriteAnswer::Written(51)
+    WriteAnswer::Written(TOTALS_LENGTH)
 }

@@ -1,6 +1,7 @@
 // The text of an accepted table: frames `11` and `12`, one `13` a slot, and `14`.
 use crate::head::head_length;
 use crate::head::write_head;
+use machine::totals::TOTALS_LENGTH;
 use rules::kinds::RepeatAnswer;
 use runs::run::length_of;
 use tables::table::Table;
@@ -15,8 +16,6 @@ ghost use Rattle.reports.specs.Texts.{slotsOf, runLines, runLength, repo
 
 // What is run at most, in slots.
 const SLOTS_MAX: u32 = 4096;
-
-const TOTALS_LENGTH: usize = 51;
 
 // How many slots are run: the smaller of H and the bound.
 fn slots_of(t: Table) -> u32

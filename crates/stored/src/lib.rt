@@ -25,3 +25,8 @@
 pub mod bytes;
 pub mod load;
 pub mod store;
+
+// How many bytes the fixed part takes, and how many a task's record.
+pub(crate) const FIXED: usize = 22;
+
+pub(crate) const RECORD: usize = 34;

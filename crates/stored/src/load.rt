@@ -1,4 +1,6 @@
 // Bytes read as a state, for any byte string of any length: decoded by the layout, and tested.
+use crate::FIXED;
+use crate::RECORD;
 use crate::bytes::read_bytes;
 use machine::form::is_formed;
 use machine::state::State;
@@ -20,6 +22,17 @@ ghost use Rattle.machine.specs.Views.{taskNumber, coreNumber, units as unitsOf,
 ghost use Rattle.stored.specs.Layout.{placeOf, decoded, load as loaded};
 ghost use Rattle.stored.specs.Places.{Within, rowAt, cell, Held, Column};
 ghost use Rattle.stored.specs.Answers.{noState, stateAnswer};
+
+// Where the numbers of task 1 stand; those of the next task stand a record further on.
+const RANKS: usize = 30;
+
+const LASTS: usize = 31;
+
+const LEFTS: usize = 32;
+
+const DONES: usize = 40;
+
+const DROPS: usize = 48;
 
 // Taken, or why not.
 pub enum Outcome {
@@ -70,7 +83,7 @@ fn rows(bytes: &[u8], n: usize) -> [Row; 64]
     let mut rows = [Row { c: 0, t: 0 }; 64];
     let mut i = 0;
     while i < n {
-        rows[i] = row_at(bytes, 22 + 34 * i);
+        rows[i] = row_at(bytes, FIXED + RECORD * i);
         i += 1;
     }
     rows
@@ -83,7 +96,7 @@ fn ranks(bytes: &[u8], n: usize) -> [TaskNumber; 64]
     let mut ranks = [TaskNumber(0); 64];
     let mut i = 0;
     while i < n {
-        ranks[i] = TaskNumber(bytes[30 + 34 * i]);
+        ranks[i] = TaskNumber(bytes[RANKS + RECORD * i]);
         i += 1;
     }
     ranks
@@ -96,7 +109,7 @@ fn cores(bytes: &[u8], n: usize) -> [CoreNumber; 64]
     let mut cores = [CoreNumber(0); 64];
     let mut i = 0;
     while i < n {
-        cores[i] = CoreNumber(bytes[31 + 34 * i]);
+        cores[i] = CoreNumber(bytes[LASTS + RECORD * i]);
         i += 1;
     }
     cores
@@ -110,7 +123,7 @@ fn units(bytes: &[u8], n: usize, from: usize) -> [Units; 64]
     let mut units = [Units(0); 64];
     let mut i = 0;
     while i < n {
-        units[i] = Units(read_bytes(bytes, from + 34 * i, 8));
+        units[i] = Units(read_bytes(bytes, from + RECORD * i, 8));
         i += 1;
     }
     units
@@ -131,10 +144,10 @@ fn decode(bytes: &[u8], n: usize) -> State
         },
         ranks: ranks(bytes, n),
         clock: Slot(read_bytes(bytes, 2, 4) as u32),
-        left: units(bytes, n, 32),
+        left: units(bytes, n, LEFTS),
         last: cores(bytes, n),
-        done: units(bytes, n, 40),
-        dropped: units(bytes, n, 48),
+        done: units(bytes, n, DONES),
+        dropped: units(bytes, n, DROPS),
         moves: read_bytes(bytes, 6, 8),
         misses: read_bytes(bytes, 14, 8),
     }
@@ -153,11 +166,11 @@ fn refused() -> StateAnswer
 pub fn load(bytes: &[u8]) -> StateAnswer
     ensures { λ r. ⌜ r ≡ stateAnswer (loaded (now (bytes .entry))) ⌝ }
 {
-    if bytes.len() < 22 {
+    if bytes.len() < FIXED {
         return refused();
     }
     let n = bytes[1] as usize;
-    if bytes.len() != 22 + 34 * n {
+    if bytes.len() != FIXED + RECORD * n {
         return refused();
     }
     if 64 < n {

@@ -1,4 +1,6 @@
 // A state written as bytes, field by field and record by record.
+use crate::FIXED;
+use crate::RECORD;
 use crate::bytes::write_bytes;
 use machine::form::is_formed;
 use machine::state::State;
@@ -60,7 +62,7 @@ fn write_tasks(out: &mut [u8], s: State)
             s.done[i].0,
             s.dropped[i].0,
         );
-        at += 34;
+        at += RECORD;
         i += 1;
     }
 }
@@ -72,7 +74,7 @@ fn write_state(out: &mut [u8], s: State)
 {
     let t = s.table;
     write_fixed(out, t.m.0, t.n.0, s.clock.0, s.moves, s.misses);
-    write_tasks(&mut out[22..], s);
+    write_tasks(&mut out[FIXED..], s);
 }
 
 // The bytes of a state, from a place of the buffer on: 9, then 7. No other byte differs, and on a refusal none at all.
@@ -82,7 +84,7 @@ pub fn store(s: State, out: &mut [u8], at: usize) -> WriteAnswer
     if !is_formed(s) {
         return WriteAnswer::Refused(Refusal::BadState);
     }
-    let size = 22 + 34 * (s.table.n.0 as usize);
+    let size = FIXED + RECORD * (s.table.n.0 as usize);
     if out.len() < at {
         return WriteAnswer::Refused(Refusal::NoRoom);
     }
