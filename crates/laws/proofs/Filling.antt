@@ -13,12 +13,13 @@ use Rattle.laws.specs.Lists.{count, from, numbers, each, at}
 use Rattle.laws.proofs.Each.{length-each}
 
 -- one number more
-pub from-snoc : {A : Type 0} (f : ℕ → A) (s k : ℕ) → map f (from s (suc k)) ≡ map f (from s k) ++ (f (s + k) ∷ [])
+from-snoc : {A : Type 0} (f : ℕ → A) (s k : ℕ) → map f (from s (suc k)) ≡ map f (from s k) ++ (f (s + k) ∷ [])
 from-snoc f s zero = rw add-zero
 from-snoc f s (suc k) = ap (λ (l : List _). f s ∷ l) (from-snoc f (suc s) k ∙ rw (suc-add, ← add-suc s k))
 
-pub each-suc : (f : ℕ → ℕ) (i : ℕ) → each (suc i) f ≡ each i f ++ (f (suc i) ∷ [])
-each-suc f i = from-snoc f 1 i ∙ ap (λ (k : ℕ). each i f ++ (f k ∷ [])) (omega arith)
+pub numbers-more : {A : Type 0} (f : ℕ → A) (i : ℕ) → map f (numbers (i + 1)) ≡ map f (numbers i) ++ (f (i + 1) ∷ [])
+numbers-more f i =
+    ap (λ (k : ℕ). map f (numbers k)) (add-one i) ∙ from-snoc f 1 i ∙ ap (λ (k : ℕ). map f (numbers i) ++ (f k ∷ [])) (omega arith)
 
 -- after i steps
 abbrev pub filled : (ℕ → ℕ) → List ℕ → ℕ → List ℕ
@@ -30,10 +31,9 @@ module _ (f : ℕ → ℕ) (l : List ℕ) where
 
   next : (i : ℕ) → filled f l (i + 1) ≡ each i f ++ (f (i + 1) ∷ drop (suc i) l)
   next i =
-      ap (filled f l) (add-one i)
-      ∙ ap (λ (x : List ℕ). x ++ drop (suc i) l) (each-suc f i)
-      ∙ append-snoc (each i f) (f (suc i)) (drop (suc i) l)
-      ∙ ap (λ (k : ℕ). each i f ++ (f k ∷ drop (suc i) l)) (sym (add-one i))
+      ap (λ (x : List ℕ). x ++ drop (i + 1) l) (numbers-more f i)
+      ∙ append-snoc (each i f) (f (i + 1)) (drop (i + 1) l)
+      ∙ ap (λ (k : ℕ). each i f ++ (f (i + 1) ∷ drop k l)) (add-one i)
 
   -- one step that puts the next value
   pub filled-put : (i : ℕ) → i < length l → set (filled f l i) i (f (i + 1)) ≡ filled f l (i + 1)

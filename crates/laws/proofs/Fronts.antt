@@ -3,13 +3,12 @@
 use Prim.Native.Nat.{ℕ, zero, suc, _+_, _-_, _≤_, _<_, zero-le}
 use mathlib.Core.Path.{_≡_, refl, sym, ap, _∙_}
 use mathlib.Core.List.{List, [], _∷_, _++_, map, map-map, map-append}
-use native.Mathlib.Numerals.{add-one}
 use native.Mathlib.Omega.{arith}
 use lib.ListN.{length, getD, take, drop, set, replicate, length-append, length-map, length-drop, length-replicate, getD-replicate, take-append-drop}
 use lib.Seq.{take-at, set-at, append-snoc, getD-append-add, length-take-le, getD-drop, ext-getD}
 use Rattle.laws.specs.Lists.{numbers}
 use Rattle.laws.proofs.Each.{length-from}
-use Rattle.laws.proofs.Filling.{from-snoc}
+use Rattle.laws.proofs.Filling.{numbers-more}
 
 map-back : {A : Type 0} (f : A → A) → ((x : A) → f x ≡ x) → (l : List A) → map f l ≡ l
 map-back f h [] = refl
@@ -77,13 +76,10 @@ module _ {A B : Type 0} (into : B → A) (d : A) (size : ℕ) where
       pub fronting-goes-on : {a : A} → i < n → a ≡ into (f (i + 1)) → Fronting f n (set now i a) (i + 1)
       fronting-goes-on less e =
           let len : length (map f (numbers i)) ≡ i = length-map (numbers i) f ∙ length-from 1 i in
-          let more : map f (numbers i) ++ (f (i + 1) ∷ []) ≡ map f (numbers (i + 1)) =
-          ap (λ (k : ℕ). map f (numbers i) ++ (f k ∷ [])) (omega arith) ∙ sym (from-snoc f 1 i) ∙ ap (λ (k : ℕ). map f (numbers k)) (sym (add-one i))
-          in
           record {
             few = g .few;
             within = omega arith;
-            same = rw (g .same, e) (front-more (map f (numbers i)) (f (i + 1)) i len (omega (arith, g .few))) ∙ ap (front into d size) more;
+            same = rw (g .same, e) (front-more (map f (numbers i)) (f (i + 1)) i len (omega (arith, g .few))) ∙ ap (front into d size) (sym (numbers-more f i));
           }
 
       pub fronting-ends : n ≤ i → now ≡ front into d size (map f (numbers n))

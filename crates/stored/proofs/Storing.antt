@@ -3,12 +3,11 @@ use Prim.Native.Nat.{ℕ, _+_, _-_, _*_, _≤_, _<_}
 use mathlib.Core.Path.{_≡_, refl, sym, ap, _∙_}
 use mathlib.Core.Bool.{true, false}
 use mathlib.Core.List.{List, [], _∷_, _++_, map, append-assoc, append-nil}
-use native.Mathlib.Numerals.{add-one}
 use native.Mathlib.Omega.{arith}
 use borrow.Rule.Slice.PartMut.{midOf, putMid}
 use lib.ListN.{length, getD, drop, length-append}
 use Rattle.laws.specs.Lists.{sum, join, numbers}
-use Rattle.laws.proofs.Filling.{from-snoc}
+use Rattle.laws.proofs.Filling.{numbers-more}
 use Rattle.laws.proofs.Joins.{join-last}
 use Rattle.rules.specs.Limits.{tasksMax}
 use Rattle.rules.specs.Tables.{size}
@@ -105,12 +104,7 @@ pub record Recording (out₀ : List ℕ) (s : State) (out : List ℕ) (at i : �
 module _ (s : State) where
   -- one record more
   more-records : (i : ℕ) → firstRecords s (i + 1) ≡ firstRecords s i ++ recordOf (view s) (i + 1)
-  more-records i =
-      let one-more : 1 + i ≡ i + 1 = omega arith in
-      ap (λ (k : ℕ). firstRecords s k) (add-one i)
-      ∙ ap join (from-snoc (recordOf (view s)) 1 i)
-      ∙ join-last (map (recordOf (view s)) (numbers i)) (recordOf (view s) (1 + i))
-      ∙ ap (λ (k : ℕ). firstRecords s i ++ recordOf (view s) k) one-more
+  more-records i = ap join (numbers-more (recordOf (view s)) i) ∙ join-last (map (recordOf (view s)) (numbers i)) (recordOf (view s) (i + 1))
 
   pub next-record : {out₀ out : List ℕ} {at i : ℕ} → Recording out₀ s out at i → i < tasks s → {tail : List ℕ}
       → tail ≡ written taskWidths (entries s i) ++ drop 34 (midOf at (length out - at) out) → Recording out₀ s (putMid at (length out - at) out tail) (at + 34) (i + 1)
