@@ -21,7 +21,8 @@ use Rattle.rules.specs.Verdicts.{fraction, heavyAt, heavy, light, heavyCount, s
 use Rattle.rules.specs.Counts.{sumBefore}
 use Rattle.priority_laws.proofs.Order.{order-once, heavies-length, light-stands, order-sum, order-length, order-none, rows-sum, order-parts, order-heavy-first, order-lights-last, lights-at, periodOf}
 use Rattle.priority_laws.proofs.Repeat.{Periodic, repeat-pos, repeat-share}
-use Rattle.slot_laws.proofs.Forms.{Accepted, RowFits}
+use Rattle.reading_laws.specs.Bounds.{RowInBounds}
+use Rattle.slot_laws.proofs.Forms.{Accepted}
 use Rattle.bound.specs.Setting.{Tasks, Conditions, tasks, lightAt}
 use Rattle.bound.proofs.Shares.{Admitted, general-conditions}
 use Rattle.bound.proofs.Prefixes.{sum-of-first}
@@ -102,7 +103,7 @@ ranked tbl a =
       even = λ k h. repeat-share tbl (accepted-periods tbl a) (taskAt tbl k) (task-low tbl k (rw (ranks-all tbl) at h)) (task-high tbl k (rw (ranks-all tbl) at h));
     }
   where
-    row : (k : ℕ) → k < heavyCount tbl + length (lights tbl) → RowFits (rowOf tbl (taskAt tbl k))
+    row : (k : ℕ) → k < heavyCount tbl + length (lights tbl) → RowInBounds (rowOf tbl (taskAt tbl k))
     row k h = a .row (taskAt tbl k) (task-low tbl k (rw (ranks-all tbl) at h)) (task-high tbl k (rw (ranks-all tbl) at h))
 
 -- ---- heavy and light in shares

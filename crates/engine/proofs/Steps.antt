@@ -22,7 +22,8 @@ use Rattle.rules.specs.Tables.{Table, size, noRow, rowOf}
 use Rattle.rules.specs.Verdicts.{order}
 use Rattle.rules.specs.States.{State}
 use Rattle.rules.specs.Slots.{release, given, placed, moved, missed, effect, slot}
-use Rattle.slot_laws.proofs.Forms.{Kept, RowFits}
+use Rattle.reading_laws.specs.Bounds.{RowInBounds}
+use Rattle.slot_laws.proofs.Forms.{Kept}
 use Rattle.engine.specs.Choice.{Named}
 use Rattle.engine.specs.Ends.{nextPhase, ending}
 use Rattle.engine.specs.Step.{releasedOn, coresOn, workedOn, effectOn, stepOn, Ready, unitsOf, periodsOf, phasesIn, stepFrom, listsOf}
@@ -92,7 +93,7 @@ module _ {st : State} (kept : Kept st) where
   unfolding released releasesBefore demand
   released-fits clock i low high =
       let r : Row = rowOf table i in
-      let fits : RowFits r = kept .taken .row i low high in
+      let fits : RowInBounds r = kept .taken .row i low high in
       let jobs : ℕ = (st .clock + (r .t - 1)) / r .t in
       omega (arith, mul-le-mul-right {m = r .c} {n = r .t} jobs (omega arith), mul-div-le (st .clock + (r .t - 1)) (r .t))
 

@@ -13,7 +13,8 @@ use Rattle.rules.specs.Tables.{size, rowOf, accepts}
 use Rattle.rules.specs.Verdicts.{order}
 use Rattle.rules.specs.Forms.{sized, taskFormed, wellFormed}
 use Rattle.priority_laws.proofs.Order.{order-length}
-use Rattle.slot_laws.proofs.Forms.{RowFits, accepted}
+use Rattle.reading_laws.specs.Bounds.{RowInBounds}
+use Rattle.slot_laws.proofs.Forms.{accepted}
 use Rattle.tables.specs.Views as Tables
 use Rattle.machine.specs.declared.state.State.{State}
 use Rattle.machine.specs.Full.{Full}
@@ -94,7 +95,7 @@ module _ (s : State) (full : Full s) where
       record {
         few = few;
         timed = λ i more.
-            let fits : RowFits (rowOf (Tables.view (s .table)) (i + 1)) = accepted (Tables.view (s .table)) (to-T a) .row (i + 1) (omega arith) (omega (arith, size-view (s .table) (full .rows) few)) in
-            let here : RowFits (Tables.viewRow (getD (s .table .rows) i Tables.zeroRow)) = rw (rowOf-view (s .table) (full .rows) few i more) at fits in
+            let fits : RowInBounds (rowOf (Tables.view (s .table)) (i + 1)) = accepted (Tables.view (s .table)) (to-T a) .row (i + 1) (omega arith) (omega (arith, size-view (s .table) (full .rows) few)) in
+            let here : RowInBounds (Tables.viewRow (getD (s .table .rows) i Tables.zeroRow)) = rw (rowOf-view (s .table) (full .rows) few i more) at fits in
             record { low = omega (arith, here .works, here .fits); fits = here .fits; high = here .period; soon = c };
       }

@@ -21,9 +21,9 @@ use Rattle.rules.specs.States as States
 use Rattle.rules.specs.Answers.{askLead}
 use Rattle.rules.specs.declared.refusal.Refusal.the-variants.{BadTasks, BadState}
 use Rattle.rules.specs.Runs.{lead}
-use Rattle.reading_laws.specs.Bounds.{Within}
+use Rattle.reading_laws.specs.Bounds.{Within, RowInBounds}
 use Rattle.reading_laws.proofs.Tests.{number-iff}
-use Rattle.slot_laws.proofs.Forms.{RowFits, Kept, formed-kept, formed-clock}
+use Rattle.slot_laws.proofs.Forms.{Kept, formed-kept, formed-clock}
 use Rattle.tables.specs.Views as Tables
 use Rattle.tables.specs.declared.table.Row.{Row}
 use Rattle.machine.specs.declared.state.State.{State}
@@ -109,7 +109,7 @@ module _ (s : State) (full : Full s) (ok : formed s ≡ true) (i : ℕ) (low : 1
       let books = rw (row-here, clock-here, done-here) at (kept .task i low inside .books) in
       omega arith
 
-  fits : RowFits (Tables.viewRow (rowHere s i))
+  fits : RowInBounds (Tables.viewRow (rowHere s i))
   fits = rw row-here at (kept .taken .row i low inside)
 
   soon : s .clock .0 ≤ clockMax

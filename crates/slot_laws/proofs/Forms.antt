@@ -10,7 +10,7 @@ use Rattle.laws.proofs.Tests.{and-T, and-left, and-right, same→eq, same-refl}
 use Rattle.laws.proofs.Each.{all-numbers, numbers-all}
 use Rattle.laws.proofs.Entries.{imply, implies, eq-T}
 use Rattle.rules.specs.Limits.{coresMin, coresMax, tasksMin, tasksMax, repeatMax, clockMax}
-use Rattle.rules.specs.Rows.{Row, releases, released}
+use Rattle.rules.specs.Rows.{releases, released}
 use Rattle.rules.specs.Repeat.{repeatLength}
 use Rattle.rules.specs.Tables.{Table, size, noRow, rowOf, accepts}
 use Rattle.rules.specs.Verdicts.{order}
@@ -21,17 +21,13 @@ use Rattle.reading_laws.proofs.Tests.{accepts-iff, every-getD, getD-every}
 
 -- ---- a table
 
--- what the tests of a row leave: 1 ≤ C ≤ T ≤ 65,535
-abbrev pub RowFits : Row → Type 0
-RowFits = RowInBounds
-
 -- what the tests of a list of rows leave
 pub record Accepted (tbl : Table) : Type 0 where
   pub cores-low : coresMin ≤ tbl .m
   pub cores-high : tbl .m ≤ coresMax
   pub tasks-low : tasksMin ≤ size tbl
   pub tasks-high : size tbl ≤ tasksMax
-  pub row : (i : ℕ) → 1 ≤ i → i ≤ size tbl → RowFits (rowOf tbl i)
+  pub row : (i : ℕ) → 1 ≤ i → i ≤ size tbl → RowInBounds (rowOf tbl i)
   pub repeat : repeatLength (tbl .rows) ≤ repeatMax
 
 -- a table is accepted exactly where these facts hold
@@ -47,7 +43,7 @@ accepted tbl t =
       repeat = b .repeat;
     }
   where
-    fine : Every RowInBounds (tbl .rows) → (i : ℕ) → 1 ≤ i → i ≤ size tbl → RowFits (rowOf tbl i)
+    fine : Every RowInBounds (tbl .rows) → (i : ℕ) → 1 ≤ i → i ≤ size tbl → RowInBounds (rowOf tbl i)
     fine b zero low high = absurd (omega arith)
     fine b (suc i) low high = every-getD RowInBounds (tbl .rows) noRow i b high
 

@@ -28,7 +28,8 @@ use Rattle.rules.specs.Answers.{stateTest}
 use Rattle.rules.specs.declared.refusal.Refusal.the-variants.{BadState}
 use Rattle.priority_laws.proofs.Order.{order-none, order-length}
 use Rattle.reading_laws.proofs.Tests.{settle-taken}
-use Rattle.slot_laws.proofs.Forms.{RowFits, TaskKept, Kept, formed-kept, formed-clock}
+use Rattle.reading_laws.specs.Bounds.{RowInBounds}
+use Rattle.slot_laws.proofs.Forms.{TaskKept, Kept, formed-kept, formed-clock}
 use Rattle.machine.proofs.Releasing.{released-most}
 use Rattle.stored.specs.Layout.{written, readOff, fixedWidths, taskWidths, placeOf, lengthOf, fixedOf, taskOf, recordOf, store, fixedIn, taskIn, sizeIn, decoded, load}
 use Rattle.stored.proofs.Numbers.{Bytes}
@@ -54,7 +55,7 @@ module _ {st : State} (kept : Kept st) (clock : st .clock ≤ clockMax) where
     released-small : released (rowOf (st .table) i) (st .clock) < 2 ^ 64
     unfolding released releasesBefore demand
     released-small =
-        let row : RowFits (rowOf (st .table) i) = kept .taken .row i low high in
+        let row : RowInBounds (rowOf (st .table) i) = kept .taken .row i low high in
         omega (arith, released-most (rowOf (st .table) i .c) (rowOf (st .table) i .t) (st .clock) (omega arith) (omega arith) clock)
 
     rank-small : at (st .ranks) i < 256
@@ -62,7 +63,7 @@ module _ {st : State} (kept : Kept st) (clock : st .clock ≤ clockMax) where
 
     task-fits : Fit taskWidths (taskOf st i)
     task-fits =
-        let row : RowFits (rowOf (st .table) i) = kept .taken .row i low high in
+        let row : RowInBounds (rowOf (st .table) i) = kept .taken .row i low high in
         let task : TaskKept st i = kept .task i low high in
         (omega arith, (omega arith, (rank-small, (omega (arith, task .core, kept .taken), (omega (arith, task .fits), (omega (arith, task .books, released-small), (omega (arith, task .books, released-small), tt)))))))
 
