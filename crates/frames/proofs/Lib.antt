@@ -1,4 +1,5 @@
 pub mod PairLoop
+pub mod Lookup
 pub mod SlotFrame
 pub mod RefusalFrame
 pub mod Unique

@@ -1,7 +1,7 @@
 -- The loop of `write_pairs`: after i values their digits stand at the front of the buffer.
 use Prim.Native.Nat.{ℕ, _+_, _*_, _/_, _%_, _≤_, _<_, zero-le}
 use mathlib.Core.Path.{_≡_, refl, sym, ap, _∙_}
-use mathlib.Core.List.{List, [], _∷_, _++_, append-assoc}
+use mathlib.Core.List.{List, [], _∷_, _++_, append-assoc, append-nil}
 use native.Mathlib.Nat.{mod-eq-of-lt}
 use native.Mathlib.Numerals.{add-one}
 use native.Mathlib.Omega.{arith}
@@ -19,16 +19,20 @@ unfolding pairs fields
 length-pairs [] = refl
 length-pairs (v ∷ vs) = length-append (field 2 v) (pairs vs) ∙ omega (arith, length-field 2 v, length-pairs vs)
 
-pairs-append : (us vs : List ℕ) → pairs (us ++ vs) ≡ pairs us ++ pairs vs
+pub pairs-append : (us vs : List ℕ) → pairs (us ++ vs) ≡ pairs us ++ pairs vs
 unfolding pairs fields
 pairs-append [] vs = refl
 pairs-append (u ∷ us) vs = ap (λ (l : List ℕ). field 2 u ++ l) (pairs-append us vs) ∙ sym (append-assoc (field 2 u) (pairs us) (pairs vs))
 
-two-digits : (v : ℕ) → v < 256 → pairs (v ∷ []) ≡ digit (v / 16) ∷ digit (v % 16) ∷ []
-unfolding pairs fields field
-two-digits v h =
+pub field-two : (v : ℕ) → v < 256 → field 2 v ≡ digit (v / 16) ∷ digit (v % 16) ∷ []
+unfolding field
+field-two v h =
     let high : v / 16 % 16 ≡ v / 16 = mod-eq-of-lt (omega arith) in
     ap (λ (d : ℕ). digit d ∷ digit (v % 16) ∷ []) high
+
+pub two-digits : (v : ℕ) → v < 256 → pairs (v ∷ []) ≡ digit (v / 16) ∷ digit (v % 16) ∷ []
+unfolding pairs fields
+two-digits v h = append-nil (field 2 v) ∙ field-two v h
 
 -- after i values
 pub record Going (out values out′ : List ℕ) (i : ℕ) : Type 0 where

@@ -90,6 +90,19 @@ field-join a (suc b) u v h =
     rw (add-suc, e, mul-add-div-right {m = 16} (lit< tt), mul-add-mod-self-right, field-join a b u (v / 16) low)
     (append-assoc (field a u) (field b (v / 16)) (digit (v % 16) ∷ []))
 
+-- two digits are those of the last byte, and before them stands the field of what is before it
+module _ (v : ℕ) where
+  last-byte : v ≡ v / 256 * 256 + v % 256
+  last-byte = omega arith
+
+  pub field-byte : field 2 v ≡ field 2 (v % 256)
+  unfolding field
+  field-byte = ap (field 2) last-byte ∙ field-join 0 2 (v / 256) (v % 256) (omega arith)
+
+  pub field-last : (w : ℕ) → field (w + 2) v ≡ field w (v / 256) ++ field 2 v
+  field-last w =
+      ap (field (w + 2)) last-byte ∙ field-join w 2 (v / 256) (v % 256) (omega arith) ∙ ap (λ (l : List ℕ). field w (v / 256) ++ l) (sym field-byte)
+
 -- the leading digit, and the field of the others
 pub field-suc : (w v : ℕ) → field (suc w) v ≡ digit (v / 16 ^ w % 16) ∷ field w v
 unfolding field

@@ -54,7 +54,7 @@ module _ (out : List ℕ) (at : ℕ) where
       rw (take-at front behind (at + n) long, past, append-assoc (take at out) a b)
 
   -- one byte
-  lay-byte : (b : ℕ) → at < length out → set out at b ≡ lay out at (b ∷ [])
+  pub lay-byte : (b : ℕ) → at < length out → set out at b ≡ lay out at (b ∷ [])
   unfolding lay
   lay-byte b h = set-split out at b h ∙ rw (add-one at) (sym (append-snoc (take at out) b (drop (suc at) out)))
 

@@ -5,6 +5,7 @@ ghost use Rattle.rules.specs.Limits.{coresMax};
 ghost use Rattle.runs.specs.Slots.{stateOf, frameLength, Runnable, RanSlots};
 use engine::release::release;
 use engine::slot::slot;
+use frames::names::names;
 use frames::slot::write_slot;
 
 // The total moves and misses.
@@ -45,6 +46,7 @@ pub fn run_slots(
     let width = frame_length(m);
     let n = left.len();
     let none = [0u32; 64];
+    let names = names();
     let mut moves = totals.moves;
     let mut misses = totals.misses;
     let mut place = 0;
@@ -69,6 +71,7 @@ pub fn run_slots(
             &cores[..m],
             shown.moves,
             shown.misses,
+            &names,
         );
         moves += shown.moves as u64;
         misses += shown.misses as u64;

@@ -6,23 +6,27 @@ use lib.Seq.{length-take-le}
 use Rattle.runs.specs.Slots.{stateOf}
 use Rattle.runs.proofs.SlotLoop.{zeros-front, Run, few-tasks, lengths, before, told, still, few-cores, start, place-room, slot-ready, front-placing, front-long, frame-room, moves-fit, misses-fit, turn, last-lengths, left-end, ended, last-size, done-size, dropped-size, phase-size}
 use native.Mathlib.Omega.{arith}
+use borrow.Author.Needs.{needs}
 use Rattle.runs.proofs.slots.run_slots.Statement.{statement}
 use Rattle.runs.proofs.slots.run_slots.Tie as tie
 
 abbrev Inv-loop : tie.InvT-loop
-Inv-loop clock count m c t ranks phase₀ left₀ last₀ done₀ dropped₀ out₀ width n none moves₀ misses₀ place₀ k₀ phase left last done dropped out moves misses place k =
+Inv-loop clock count m c t ranks phase₀ left₀ last₀ done₀ dropped₀ out₀ width n none names moves₀ misses₀ place₀ k₀ phase left last done dropped out moves misses place k =
     Run (stateOf m clock c t ranks (before phase₀ left₀) last₀ done₀ dropped₀ moves₀ misses₀) count c t out₀ phase left last done dropped out moves misses place k
 
 abbrev μ-loop : tie.MeasureT-loop
-μ-loop clock count m c t ranks phase₀ left₀ last₀ done₀ dropped₀ out₀ width n none moves₀ misses₀ place₀ k₀ phase left last done dropped out moves misses place k =
+μ-loop clock count m c t ranks phase₀ left₀ last₀ done₀ dropped₀ out₀ width n none names moves₀ misses₀ place₀ k₀ phase left last done dropped out moves misses place k =
     count - k
 
 -- the places before the loop and at its head
 abbrev begun : tie.At-loop Inv-loop μ-loop → tie.Start Inv-loop μ-loop
-begun c = c .before .before .before .before .before .before .before .before .before .before .before .before .before .before .before .before
+begun c = c .before .before .before .before .before .before .before .before .before .before .before .before .before .before .before .before .before
 
 abbrev framed : tie.At-loop Inv-loop μ-loop → tie.After-frame-length Inv-loop μ-loop
-framed c = c .before .before .before .before .before .before
+framed c = c .before .before .before .before .before .before .before
+
+abbrev named : tie.At-loop Inv-loop μ-loop → tie.After-names Inv-loop μ-loop
+named c = c .before .before .before .before .before .before
 
 abbrev freed : tie.At-loop Inv-loop μ-loop → tie.After-release Inv-loop μ-loop
 freed c = c .before .before .before
@@ -31,17 +35,20 @@ abbrev looped : tie.After-slot Inv-loop μ-loop → tie.In-loop Inv-loop μ-loop
 looped c = c .before .before .before .before .before .before .before
 
 abbrev slotted : tie.After-write-slot Inv-loop μ-loop → tie.After-slot Inv-loop μ-loop
-slotted c = c .before .before .before .before .before .before .before .before .before .before .before .before .before .before
+slotted c = c .before .before .before .before .before .before .before .before .before .before .before .before .before .before .before
 
 frame-length-requires : tie.Need-frame-length-requires Inv-loop μ-loop
 frame-length-requires c κs = few-cores (c .before .before .before .before .before .before .before .before .before .pre)
 
+names-requires : tie.Need-names-requires Inv-loop μ-loop
+names-requires c κs = search needs
+
 release-requires : tie.Need-release-requires Inv-loop μ-loop
-release-requires c κs = lengths (c .before .before .before .before .before .before .before .before .before .before .before .before .pre)
+release-requires c κs = lengths (c .before .before .before .before .before .before .before .before .before .before .before .before .before .pre)
 
 loop-holds : tie.Need-loop-holds Inv-loop μ-loop
 loop-holds c =
-    let pre = c .before .before .before .before .before .before .before .before .before .before .before .before .before .before .before .pre in
+    let pre = c .before .before .before .before .before .before .before .before .before .before .before .before .before .before .before .before .pre in
     let e = c .before .before .release .ensures in
     rw (told pre e) (start _ pre e)
 
@@ -93,14 +100,18 @@ slice-aggregate-write-slot c =
     let at = loop .before in
     sym (length-take-le _ _ (front-long (still (begun at .pre) (freed at .release .ensures)) (at .loop .inv) (loop .loop-test .taken) (length-take-le _ _ (few-cores (begun at .pre))) (slot .slot .ensures) _))
 
+slice-aggregate-write-slot-2 : tie.Need-slice-aggregate-write-slot-2 Inv-loop μ-loop
+slice-aggregate-write-slot-2 c = search needs
+
 write-slot-requires : tie.Need-write-slot-requires Inv-loop μ-loop
 write-slot-requires c κs =
-    let slot = c .before .before .before .before .before .before .before .before .before .before .before .before .before in
+    let slot = c .before .before .before .before .before .before .before .before .before .before .before .before .before .before in
     let loop = looped slot in
     let at = loop .before in
     let run = still (begun at .pre) (freed at .release .ensures) in
+    let room = frame-room run (at .loop .inv) (loop .loop-test .taken) (length-take-le _ _ (few-cores (begun at .pre))) (slot .slot .ensures) in
     rw (front-placing run (at .loop .inv) (loop .loop-test .taken) (length-take-le _ _ (few-cores (begun at .pre))) (slot .slot .ensures) _)
-    (frame-room run (at .loop .inv) (loop .loop-test .taken) (length-take-le _ _ (few-cores (begun at .pre))) (slot .slot .ensures))
+    (room .0, room .1, named at .names .ensures)
 
 cast-moves : tie.Need-cast-moves Inv-loop μ-loop
 cast-moves c = omega arith
@@ -149,10 +160,10 @@ loop-again c =
     (rw (front-placing run (at .loop .inv) (loop .loop-test .taken) wide (slot .slot .ensures) _) at (frame .write-slot .ensures))
 
 array-share-prefix-none : tie.Need-array-share-prefix-none Inv-loop μ-loop
-array-share-prefix-none c = few-tasks (c .before .before .before .before .before .before .before .before .before .before .before .before .before .before .before .before .before .before .before .pre)
+array-share-prefix-none c = few-tasks (c .before .before .before .before .before .before .before .before .before .before .before .before .before .before .before .before .before .before .before .before .pre)
 
 slice-aggregate-release : tie.Need-slice-aggregate-release Inv-loop μ-loop
-slice-aggregate-release c = sym (length-take-le _ _ (few-tasks (c .before .before .before .before .before .before .before .before .before .before .before .before .before .before .before .before .before .before .before .before .pre)))
+slice-aggregate-release c = sym (length-take-le _ _ (few-tasks (c .before .before .before .before .before .before .before .before .before .before .before .before .before .before .before .before .before .before .before .before .before .pre)))
 
 release-requires-2 : tie.Need-release-requires-2 Inv-loop μ-loop
 release-requires-2 c κs =
@@ -210,6 +221,7 @@ run-slots-spec =
     Inv-loop
     μ-loop
     frame-length-requires
+    names-requires
     release-requires
     loop-holds
     array-borrow-prefix-cores
@@ -221,6 +233,7 @@ run-slots-spec =
     add-write-slot
     array-share-prefix-cores
     slice-aggregate-write-slot
+    slice-aggregate-write-slot-2
     write-slot-requires
     cast-moves
     add-moves
