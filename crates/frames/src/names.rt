@@ -1,5 +1,5 @@
-// The two digits of every byte, one after the other, to be looked up where many frames are written: made once for a run, where
-// arithmetic on each digit would take a sixth of a slot's time.
+// The two digits of every byte, one after the other. A run makes them once, and its frames look their numbers up: arithmetic on every
+// digit of every frame would be a good part of a slot's time.
 ghost use mathlib.Core.Path.{_≡_};
 ghost use Prim.Native.Nat.{_+_, _≤_};
 ghost use lib.ListN.{length};
