@@ -1,5 +1,5 @@
 -- The digits of every byte: how they are made, and where those of a byte stand.
-use Prim.Native.Nat.{ℕ, zero, suc, _+_, _*_, _/_, _%_, _≤_, _<_}
+use Prim.Native.Nat.{ℕ, suc, _+_, _*_, _/_, _%_, _≤_, _<_}
 use mathlib.Core.Path.{_≡_, sym, ap, _∙_}
 use mathlib.Core.List.{List, [], _∷_, _++_, append-nil}
 use native.Mathlib.Omega.{arith}
@@ -7,7 +7,7 @@ use lib.ListN.{length, getD, take, drop, set, replicate, take-append-drop, lengt
 use lib.Seq.{drop-cons, getD-at, append-snoc, length-take-le}
 use Rattle.laws.specs.Digits.{digit, field}
 use Rattle.laws.specs.Lists.{from}
-use Rattle.laws.proofs.Each.{length-from}
+use Rattle.laws.proofs.Each.{length-from, getD-from}
 use Rattle.rules.specs.Answers.{lay}
 use Rattle.reading_laws.proofs.Lays.{lay-byte, laid-byte}
 use Rattle.frames.specs.Pairs.{pairs, names}
@@ -46,11 +46,6 @@ module _ (l : List ℕ) (v : ℕ) (inside : v < length l) (byte : getD l v 0 < 2
 
 -- ---- of every byte
 
-getD-from : (s k i : ℕ) → i < k → getD (from s k) i 0 ≡ s + i
-getD-from s zero i h = absurd (omega arith)
-getD-from s (suc k) zero h = omega arith
-getD-from s (suc k) (suc i) h = getD-from (suc s) k i (omega arith) ∙ omega arith
-
 abbrev bytes : List ℕ
 bytes = from 0 256
 
@@ -62,7 +57,7 @@ all-bytes = length-from 0 256
 
 -- ---- they are made
 
-abbrev pub blank : List ℕ
+abbrev blank : List ℕ
 blank = replicate 512 0
 
 room : 2 * length bytes ≤ length blank

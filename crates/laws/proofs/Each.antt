@@ -3,7 +3,7 @@ use Prim.Native.Nat.{ℕ, zero, suc, _+_, _≤_, _<_, zero-le}
 use mathlib.Core.Path.{_≡_, refl, sym, ap, _∙_}
 use mathlib.Core.Bool.{Bool, true, false, cond}
 use mathlib.Core.Logic.{⊎-elim}
-use mathlib.Core.List.{List, [], _∷_, map}
+use mathlib.Core.List.{List, [], _∷_, map, map-id}
 use native.Mathlib.Nat.{add-zero, add-suc, suc-add, le-of-suc-le-suc, not-suc-le-zero, eq-or-lt-of-le}
 use native.Mathlib.Omega.{arith}
 use lib.Dec.{T}
@@ -22,6 +22,9 @@ getD-map-from : (f : ℕ → ℕ) (s k i : ℕ) → i < k → getD (map f (from 
 getD-map-from f s zero i h = absurd (not-suc-le-zero h)
 getD-map-from f s (suc k) zero h = rw add-zero
 getD-map-from f s (suc k) (suc i) h = getD-map-from f (suc s) k i (le-of-suc-le-suc h) ∙ ap f (suc-add s i ∙ sym (add-suc s i))
+
+pub getD-from : (s k i : ℕ) → i < k → getD (from s k) i 0 ≡ s + i
+getD-from s k i h = ap (λ (l : List ℕ). getD l i 0) (sym (map-id (from s k))) ∙ getD-map-from (λ x. x) s k i h
 
 -- ---- f 1 to f n
 

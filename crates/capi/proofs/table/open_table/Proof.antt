@@ -1,8 +1,10 @@
 -- `capi::table::open_table` meets its contract.
-use mathlib.Core.Path.{sym, ap, _∙_}
+use mathlib.Core.Path.{_≡_, sym, ap, _∙_}
 use borrow.Author.Needs.{needs}
 use denote.Ref.{now}
 use Rattle.tables.specs.declared.table.Outcome.{Outcome}
+use Rattle.tables.specs.Writes.{made}
+use Rattle.stored.specs.Answers.{storedState}
 use Rattle.capi.specs.Answers.{freshOf}
 use Rattle.capi.proofs.Opening.{fresh-stored}
 use Rattle.capi.proofs.table.open_table.Statement.{statement}
@@ -30,9 +32,9 @@ returns c =
     let told = made-fresh .before in
     let start = told .before .before .before .before in
     let t = start .args .taken .table in
-    stored .store .ensures
-    ∙ fresh-stored t (start .pre (told .enum-told .given .1)) _ (made-fresh .fresh .ensures) _
-    ∙ ap (λ (o : Outcome). freshOf o t (now (start .args .state))) (sym (told .enum-told .given .1))
+    let state = now (start .args .state) in
+    let answer : made (stored .store .result) _ ≡ storedState (made-fresh .fresh .result) state 0 = stored .store .ensures in
+    answer ∙ fresh-stored t (start .pre (told .enum-told .given .1)) _ (made-fresh .fresh .ensures) _ ∙ ap (λ (o : Outcome). freshOf o t state) (sym (told .enum-told .given .1))
 
 returns-2 : tie.Need-returns-2
 unfolding freshOf
