@@ -1,4 +1,4 @@
--- An admitted table's run: the first light tasks, however many, are given no less than their shares.
+-- A run of an admitted table that obeys: the first light tasks, however many, are given no less than their shares.
 use Prim.Native.Nat.{ℕ, _+_, _*_, _≤_}
 use mathlib.Core.Path.{_≡_, sym, ap, _∙_, fun-ext}
 use mathlib.Core.List.{List, map}
@@ -6,55 +6,57 @@ use native.Mathlib.Nat.{le-refl}
 use native.Mathlib.Decide.{decLe}
 use native.Mathlib.Omega.{arith}
 use lib.Dec.{T, eqb}
-use lib.ListN.{length, take}
+use lib.ListN.{length, take, getD}
 use lib.Seq.{take-all}
 use Rattle.laws.specs.Lists.{sum, count}
 use Rattle.laws.proofs.Positions.{count-take, count-filter-le}
-use Rattle.rules.specs.Tables.{Table, rowOf}
+use Rattle.laws.proofs.Entries.{count-numbers-le}
+use Rattle.rules.specs.Tables.{Table, size, rowOf}
 use Rattle.rules.specs.Repeat.{repeatLength}
-use Rattle.rules.specs.Verdicts.{light, heavyCount, share, order, lights, admitted}
-use Rattle.rules.specs.Counts.{sumBefore, coresIn, workOf, workOfAll}
+use Rattle.rules.specs.Verdicts.{light, heavyCount, share, admitted}
+use Rattle.rules.specs.Counts.{sumBefore, workOf, workOfAll}
+use Rattle.rules.specs.Obeys.{Priority, Rightly, lightsOf}
+use Rattle.priority_laws.proofs.Priority.{light-at}
 use Rattle.slot_laws.proofs.Forms.{Accepted}
-use Rattle.slot_laws.proofs.Books.{order-ranking}
 use Rattle.slot_laws.proofs.WorkCounts.{work-of-all}
 use Rattle.bound.proofs.Theorem.{always-ahead}
 use Rattle.bound.proofs.Prefixes.{sum-of-first}
-use Rattle.bound.proofs.Ranked.{taskAt, light-at, ranked, table-conditions}
+use Rattle.bound.proofs.Ranked.{ranked, table-conditions}
 use Rattle.bound.proofs.Scheduled.{scheduled}
 
 -- the shares of some tasks together
 abbrev pub sharesOf : Table → List ℕ → ℕ
 sharesOf tbl is = sum (map (λ i. share (repeatLength (tbl .rows)) (rowOf tbl i)) is)
 
-module _ (tbl : Table) where
+module _ (tbl : Table) (ranks : List ℕ) (r : Priority tbl ranks) where
+  abbrev ls : List ℕ
+  ls = lightsOf tbl ranks
+
   -- a sum over the light tasks by rank is one over the first of their list
-  lights-sum : (f : ℕ → ℕ) (k : ℕ) → k ≤ length (lights tbl) → sumBefore k (λ j. f (taskAt tbl (heavyCount tbl + j))) ≡ sum (map f (take k (lights tbl)))
-  lights-sum f k h = ap (sumBefore k) (fun-ext (λ j. ap f (light-at tbl j))) ∙ sym (sum-of-first (lights tbl) f k h)
+  lights-sum : (f : ℕ → ℕ) (k : ℕ) → k ≤ length ls → sumBefore k (λ j. f (getD ranks (heavyCount tbl + j) 0)) ≡ sum (map f (take k ls))
+  lights-sum f k h = ap (sumBefore k) (fun-ext (λ j. ap f (light-at r j))) ∙ sym (sum-of-first ls f k h)
 
   -- no task is twice among the first light ones
-  lights-once : (k i : ℕ) → count (eqb i) (take k (lights tbl)) ≤ 1
-  unfolding lights
+  lights-once : (k i : ℕ) → count (eqb i) (take k ls) ≤ 1
   lights-once k i =
-      omega (arith, count-take (eqb i) k (lights tbl), count-filter-le (light tbl) (eqb i) (order tbl), order-ranking tbl .once i)
+      omega (arith, count-take (eqb i) k ls, count-filter-le (light tbl) (eqb i) ranks, r .permutes i, count-numbers-le i (size tbl))
 
-  module _ (a : Accepted tbl) (t : T (admitted tbl)) (b : ℕ) where
-    first-keep-up : (k : ℕ) → k ≤ length (lights tbl)
-        → b * sharesOf tbl (take k (lights tbl)) ≤ repeatLength (tbl .rows) * workOfAll (coresIn tbl) (take k (lights tbl)) b
+  module _ (run : ℕ → List ℕ) (right : (s : ℕ) → Rightly tbl ranks run s) (a : Accepted tbl) (t : T (admitted tbl)) (b : ℕ) where
+    first-keep-up : (k : ℕ) → k ≤ length ls → b * sharesOf tbl (take k ls) ≤ repeatLength (tbl .rows) * workOfAll run (take k ls) b
     unfolding ranked scheduled workOf
     first-keep-up k h =
         let f : ℕ → ℕ = λ i. share (repeatLength (tbl .rows)) (rowOf tbl i) in
-        let g : ℕ → ℕ = λ i. workOf (coresIn tbl) i b in
-        rw (work-of-all (coresIn tbl) (take k (lights tbl)) (lights-once k) b, ← lights-sum f k h, ← lights-sum g k h)
-        (always-ahead (scheduled tbl a) (table-conditions tbl a t) b k h)
+        let g : ℕ → ℕ = λ i. workOf run i b in
+        rw (work-of-all run (take k ls) (lights-once k) b, ← lights-sum f k h, ← lights-sum g k h)
+        (always-ahead (scheduled tbl ranks run r right a) (table-conditions tbl a ranks r t) b k h)
 
     -- the first k light tasks keep up with their shares, and all where there are no more than k
-    pub lights-keep-up : (k : ℕ)
-        → b * sharesOf tbl (take k (lights tbl)) ≤ repeatLength (tbl .rows) * workOfAll (coresIn tbl) (take k (lights tbl)) b
+    pub lights-keep-up : (k : ℕ) → b * sharesOf tbl (take k ls) ≤ repeatLength (tbl .rows) * workOfAll run (take k ls) b
     lights-keep-up k =
-        elim (decLe k (length (lights tbl))) [
+        elim (decLe k (length ls)) [
           | yes h ↦ first-keep-up k h
           | no h ↦
-              let n : ℕ = length (lights tbl) in
-              let all : take k (lights tbl) ≡ take n (lights tbl) = take-all k (lights tbl) (omega arith) ∙ sym (take-all n (lights tbl) (le-refl n)) in
+              let n : ℕ = length ls in
+              let all : take k ls ≡ take n ls = take-all k ls (omega arith) ∙ sym (take-all n ls (le-refl n)) in
               rw all (first-keep-up n (le-refl n))
         ]

@@ -8,8 +8,10 @@ pub mod Prefixes
 pub mod Chosen
 pub mod Ranked
 pub mod Scheduled
+pub mod Prolonged
 pub mod NoMiss
 pub mod KeepUp
+pub mod OnTime
 pub mod Demand3
 pub mod Rounds
 pub mod Repetition

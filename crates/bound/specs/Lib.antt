@@ -1,2 +1,3 @@
+pub mod OnTime
 pub mod Demand3
 pub mod Setting

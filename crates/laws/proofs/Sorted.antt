@@ -1,7 +1,7 @@
 -- Which numbers stand in a list, and lists in which each number comes before all later ones.
 use Prim.Native.Nat.{ℕ, zero, suc, _+_, _≤_, _<_, zero-le}
-use mathlib.Core.Path.{_≡_, refl, sym}
-use mathlib.Core.Bool.{Bool, true, false, cond}
+use mathlib.Core.Path.{_≡_, refl, sym, ap, _∙_}
+use mathlib.Core.Bool.{Bool, true, false, cond, not}
 use mathlib.Core.Logic.{_⊎_, inl, inr, ⊎-elim}
 use mathlib.Core.List.{List, [], _∷_, _++_}
 use native.Mathlib.Nat.{eq-or-lt-of-le}
@@ -9,9 +9,10 @@ use native.Mathlib.Omega.{arith}
 use lib.Dec.{eqb}
 use lib.ListN.{length, getD}
 use borrow.Author.Tests.{eq-eqb, ne-eqb, eqb-true, eqb-false}
-use Rattle.laws.specs.Lists.{filter, count, from, numbers, at}
-use Rattle.laws.proofs.Tests.{decide}
-use Rattle.laws.proofs.Positions.{count-filter}
+use Rattle.laws.specs.Lists.{filter, count, from, numbers, at, position}
+use Rattle.laws.proofs.Tests.{never, decide}
+use Rattle.laws.proofs.Filters.{filter-all, filter-none}
+use Rattle.laws.proofs.Positions.{StandsAt, position-stands, count-filter}
 
 -- ---- standing in a list
 
@@ -135,6 +136,19 @@ module _ (R : ℕ → ℕ → Type 0) where
   sorted-at l (suc a) zero s low less high = absurd (omega arith)
   sorted-at l (suc a) (suc b) s low less high = sorted-getD l a b s (omega arith) high
 
+  -- and a list in which each is related to those at later places is sorted
+  getD-ahead : (x j : ℕ) (xs : List ℕ) (p : ℕ) → StandsAt j xs p → ((b : ℕ) → b < length xs → R x (getD xs b 0)) → R x j
+  getD-ahead x j xs zero s h = absurd (omega (arith, s .low))
+  getD-ahead x j xs (suc q) s h = rw (s .here) at (h q (s .high))
+
+  getD-sorted : (l : List ℕ) → ((a b : ℕ) → a < b → b < length l → R (getD l a 0) (getD l b 0)) → Sorted R l
+  getD-sorted [] h = tt
+  getD-sorted (x ∷ xs) h =
+      ((λ j st. getD-ahead x j xs (position j xs) (position-stands j xs st) (λ b l. h 0 (suc b) (omega arith) (omega arith))), getD-sorted xs (λ a b less high. h (suc a) (suc b) (omega arith) (omega arith)))
+
+  pub at-sorted : (l : List ℕ) → ((a b : ℕ) → 1 ≤ a → a < b → b ≤ length l → R (at l a) (at l b)) → Sorted R l
+  at-sorted l h = getD-sorted l (λ a b less high. h (suc a) (suc b) (omega arith) (omega arith) high)
+
   module _ (asym : (i j : ℕ) → R i j → R j i → ⊥) where
     heads-differ : (x y : ℕ) (xs ys : List ℕ) → (x ≡ y → ⊥) → Ahead R x xs → Ahead R y ys → Stands x (y ∷ ys) → Stands y (x ∷ xs) → ⊥
     heads-differ x y xs ys differ s t hx hy =
@@ -149,3 +163,24 @@ module _ (R : ℕ → ℕ → Type 0) where
         ⊎-elim (λ d. rw (eqb-true x y d, sorted-unique xs ys (s .1) (t .1) (λ j. omega (arith, rw (eqb-true x y d) at (e j)))))
         (λ d. absurd (heads-differ x y xs ys (eqb-false x y d) (s .0) (t .0) (rw (← (e x)) (stands-here x xs)) (rw (e y) (stands-here y ys))))
         (decide (eqb x y))
+
+-- ---- those that pass a test first
+
+-- where nothing that fails a test stands before what passes it, the list is those that pass and then those that fail
+count-after : (p : ℕ → Bool) (x : ℕ) (xs : List ℕ) → p x ≡ false → Ahead (λ i j. p j ≡ true → p i ≡ true) x xs → count p xs ≡ 0
+count-after p x [] off a = refl
+count-after p x (y ∷ ys) off a =
+    ⊎-elim (λ (e : p y ≡ true). let on : p x ≡ true = a y (stands-here y ys) e in never cc) (λ (e : p y ≡ false). rw (e, count-after p x ys off (λ j st. a j (stands-later j y ys st)))) (decide (p y))
+
+count-twice : (p : ℕ → Bool) (l : List ℕ) → count (λ i. not (not (p i))) l ≡ count p l
+count-twice p [] = refl
+count-twice p (x ∷ xs) = ⊎-elim (λ (e : p x ≡ true). rw (e, count-twice p xs)) (λ (e : p x ≡ false). rw (e, count-twice p xs)) (decide (p x))
+
+pub passing-first : (p : ℕ → Bool) (l : List ℕ) → Sorted (λ i j. p j ≡ true → p i ≡ true) l → l ≡ filter p l ++ filter (λ i. not (p i)) l
+passing-first p [] s = refl
+passing-first p (x ∷ xs) s =
+    ⊎-elim (λ (e : p x ≡ true). rw e (ap (λ (l : List ℕ). x ∷ l) (passing-first p xs (s .1))))
+    (λ (e : p x ≡ false).
+    let none : count p xs ≡ 0 = count-after p x xs e (s .0) in
+    rw (e, filter-none p xs none, filter-all (λ i. not (p i)) xs (count-twice p xs ∙ none)))
+    (decide (p x))

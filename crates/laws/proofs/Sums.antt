@@ -1,21 +1,21 @@
 -- Counts that go over one list or over another: the positions of a list or the values on it, the elements of a list or the
 -- members of another.
-use Prim.Native.Nat.{ℕ, zero, suc, _+_, _≤_, _<_, min}
+use Prim.Native.Nat.{ℕ, zero, suc, _+_, _*_, _≤_, _<_, min}
 use mathlib.Core.Path.{_≡_, refl, sym, ap, _∙_}
 use mathlib.Core.Bool.{Bool, true, false, cond, _&&_}
 use mathlib.Core.Logic.{⊎-elim}
 use mathlib.Core.List.{List, [], _∷_, map}
 use native.Mathlib.Nat.{zero-add}
-use native.Mathlib.Decide.{decLe}
+use native.Mathlib.Decide.{decLe, decLt}
 use native.Mathlib.Omega.{arith}
 use borrow.Author.Tests.{lt-ltb, le-ltb, eq-eqb, ne-eqb, eqb-true}
 use lib.Dec.{eqb, ltb}
 use lib.ListN.{length}
 use Rattle.laws.specs.Lists.{count, sum, from, numbers, at, later, position}
 use Rattle.laws.proofs.Tests.{decide, cond-same, eqb-sym}
-use Rattle.laws.proofs.Each.{count-cong}
-use Rattle.laws.proofs.Filters.{count-as-sum}
-use Rattle.laws.proofs.Sorted.{count-from-once}
+use Rattle.laws.proofs.Each.{length-from, count-cong}
+use Rattle.laws.proofs.Filters.{count-as-sum, length-as-sum}
+use Rattle.laws.proofs.Sorted.{Stands, stands-cases, stands-here, stands-later, count-from-once}
 use Rattle.laws.proofs.Positions.{position-count}
 use Rattle.laws.proofs.Entries.{count-false}
 
@@ -135,3 +135,68 @@ pub count-members : (is : List ℕ) → ((i : ℕ) → count (eqb i) is ≤ 1) �
 count-members is once [] = sym (sum-map-zero is)
 count-members is once (x ∷ xs) =
     rw (once-found (position x is) (count (eqb x) is) (position-count x is) (once x), count-members is once xs, sum-map-add (λ i. cond (eqb i x) 1 0) (λ i. count (eqb i) xs) is, sum-map-eqb x is)
+
+-- ---- lists with the same numbers
+
+-- sums of functions that agree on what stands in the list
+pub sum-agree : (f g : ℕ → ℕ) (l : List ℕ) → ((i : ℕ) → Stands i l → f i ≡ g i) → sum (map f l) ≡ sum (map g l)
+sum-agree f g [] h = refl
+sum-agree f g (x ∷ xs) h = rw (h x (stands-here x xs), sum-agree f g xs (λ i st. h i (stands-later i x xs st)))
+
+module _ (f : ℕ → ℕ) where
+  -- one number more in the one list
+  swap-more : (x : ℕ) (xs ys : List ℕ)
+      → sum (map (λ i. (cond (eqb i x) 1 0 + count (eqb i) xs) * f i) ys) ≡ count (eqb x) ys * f x + sum (map (λ i. count (eqb i) xs * f i) ys)
+  swap-more x xs [] = omega arith
+  swap-more x xs (y ∷ ys) =
+      ⊎-elim (λ (e : eqb y x ≡ true). rw (eqb-true y x e, eq-eqb x x refl, swap-more x xs ys) (omega arith))
+      (λ (e : eqb y x ≡ false). let r : eqb x y ≡ false = eqb-sym x y ∙ e in rw (e, r, swap-more x xs ys) (omega arith))
+      (decide (eqb y x))
+
+  -- each number of one list as often as it stands in the other: the same both ways round
+  sum-swap : (xs ys : List ℕ) → sum (map (λ i. count (eqb i) xs * f i) ys) ≡ sum (map (λ i. count (eqb i) ys * f i) xs)
+  sum-swap [] ys = sum-agree (λ i. 0 * f i) (λ i. 0) ys (λ i st. omega arith) ∙ sum-map-zero ys
+  sum-swap (x ∷ xs) ys = swap-more x xs ys ∙ rw (sum-swap xs ys)
+
+  -- a list without repeats, and one with the same numbers, have the same sums
+  pub same-sums : (xs ys : List ℕ) → ((i : ℕ) → count (eqb i) xs ≡ count (eqb i) ys) → ((i : ℕ) → count (eqb i) ys ≤ 1)
+      → sum (map f xs) ≡ sum (map f ys)
+  same-sums xs ys same once =
+      sum-agree f (λ i. count (eqb i) ys * f i) xs (λ i st. let one : count (eqb i) ys ≡ 1 = omega (arith, same i, once i) in rw one (omega arith))
+      ∙ sym (sum-swap xs ys)
+      ∙ sum-agree (λ i. count (eqb i) xs * f i) f ys (λ i st. let one : count (eqb i) xs ≡ 1 = omega (arith, same i, once i) in rw one (omega arith))
+
+-- ---- each number once
+
+-- terms of at most 1 that sum to their number are each 1
+sum-few : (f : ℕ → ℕ) (l : List ℕ) → ((i : ℕ) → f i ≤ 1) → sum (map f l) ≤ length l
+sum-few f [] few = omega arith
+sum-few f (x ∷ xs) few = omega (arith, few x, sum-few f xs few)
+
+sum-full : (f : ℕ → ℕ) (l : List ℕ) → ((i : ℕ) → f i ≤ 1) → sum (map f l) ≡ length l → (i : ℕ) → Stands i l → f i ≡ 1
+sum-full f [] few full i st = absurd (omega arith)
+sum-full f (x ∷ xs) few full i st =
+    ⊎-elim (λ (e : i ≡ x). rw e (omega (arith, few x, sum-few f xs few)))
+    (λ l. sum-full f xs few (omega (arith, few x, sum-few f xs few)) i l)
+    (stands-cases i x xs st)
+
+-- n numbers from 1 to n, none twice, are all of them
+pub distinct-all : (n : ℕ) (l : List ℕ) → length l ≡ n → ((i : ℕ) → count (eqb i) l ≤ 1) → ((i : ℕ) → Stands i l → (1 ≤ i) × (i ≤ n))
+    → (i : ℕ) → count (eqb i) l ≡ count (eqb i) (numbers n)
+distinct-all n l len once within i =
+    elim (decLt 0 (count (eqb i) l)) [
+      | yes h ↦ omega (arith, once i, count-from-once i 1 n (within i h .0) (omega (arith, within i h .1)))
+      | no h ↦
+          elim (decLt 0 (count (eqb i) (numbers n))) [
+            | yes g ↦ absurd (omega (arith, sum-full (λ j. count (eqb j) l * 1) (numbers n) (λ j. omega (arith, once j)) all i g))
+            | no g ↦ omega arith
+          ]
+    ]
+  where
+    all : sum (map (λ j. count (eqb j) l * 1) (numbers n)) ≡ length (numbers n)
+    all =
+        sum-swap (λ j. 1) l (numbers n)
+        ∙ sum-agree (λ j. count (eqb j) (numbers n) * 1) (λ j. 1) l (λ j st. let one : count (eqb j) (numbers n) ≡ 1 = count-from-once j 1 n (within j st .0) (omega (arith, within j st .1)) in omega arith)
+        ∙ sym (length-as-sum l)
+        ∙ len
+        ∙ sym (length-from 1 n)

@@ -1,2 +1,3 @@
+pub mod Priority
 pub mod Order
 pub mod Repeat

@@ -15,3 +15,4 @@ pub mod Forms
 pub mod Answers
 pub mod Program
 pub mod Counts
+pub mod Obeys

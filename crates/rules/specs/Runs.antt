@@ -29,20 +29,31 @@ lead st i =
     let r : Row = rowOf (st .table) i in
     pos (at (st .done) i * r .t) -ℤ pos (st .clock * r .c)
 
+-- verdict, number of heavy tasks, H
+abbrev pub verdictNumbers : Table → List ℕ
+verdictNumbers tbl = verdictByte (verdict tbl) ∷ heavyCount tbl ∷ repeatLength (tbl .rows) ∷ []
+
 unfoldable pub verdictLine : Table → List ℕ
-verdictLine tbl = frame Frames.verdict (verdictByte (verdict tbl) ∷ heavyCount tbl ∷ repeatLength (tbl .rows) ∷ [])
+verdictLine tbl = frame Frames.verdict (verdictNumbers tbl)
 
 -- the task numbers, highest priority first
 unfoldable pub orderLine : List ℕ → List ℕ
 orderLine ranks = frame (Frames.order (length ranks)) ranks
 
+-- slot, the task on core 1 to core m, moves, misses
+abbrev pub slotNumbers : Shown → List ℕ
+slotNumbers s = s .slot ∷ s .cores ++ (s .moves ∷ s .misses ∷ [])
+
 unfoldable pub slotLine : Shown → List ℕ
-slotLine s = frame (Frames.slot (length (s .cores))) (s .slot ∷ s .cores ++ (s .moves ∷ s .misses ∷ []))
+slotLine s = frame (Frames.slot (length (s .cores))) (slotNumbers s)
 
 -- the frames of k slots, each right after the last
 unfoldable pub slotLines : ℕ → State → List ℕ
 slotLines k st = join (map slotLine (shows k st))
 
 -- total moves, misses and dropped units
+abbrev pub totalsNumbers : State → List ℕ
+totalsNumbers st = st .moves ∷ st .misses ∷ sum (st .dropped) ∷ []
+
 unfoldable pub totalsLine : State → List ℕ
-totalsLine st = frame Frames.totals (st .moves ∷ st .misses ∷ sum (st .dropped) ∷ [])
+totalsLine st = frame Frames.totals (totalsNumbers st)

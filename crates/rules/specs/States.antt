@@ -17,12 +17,12 @@ pub record State : Type 0 where
   pub moves : ℕ
   pub misses : ℕ
 
--- clock 0, no last core and every count 0
-unfoldable pub fresh : Table → State
-fresh tbl =
+-- clock 0, no last core and every count 0, with a given order
+abbrev pub freshWith : Table → List ℕ → State
+freshWith tbl ranks =
     record {
       table = tbl;
-      ranks = order tbl;
+      ranks = ranks;
       clock = 0;
       left = replicate (size tbl) 0;
       last = replicate (size tbl) 0;
@@ -31,3 +31,7 @@ fresh tbl =
       moves = 0;
       misses = 0;
     }
+
+-- and with the defined one
+unfoldable pub fresh : Table → State
+fresh tbl = freshWith tbl (order tbl)

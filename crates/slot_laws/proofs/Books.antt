@@ -21,7 +21,8 @@ use Rattle.rules.specs.Slots.{release, choose, placed, given, moved, missed, ef
 use Rattle.rules.specs.Runs.{after}
 use Rattle.rules.specs.Forms.{wellFormed}
 use Rattle.rules.specs.Counts.{sumBefore}
-use Rattle.priority_laws.proofs.Order.{order-count, order-none}
+use Rattle.rules.specs.Obeys.{Priority}
+use Rattle.priority_laws.proofs.Priority.{ranks-none, order-priority}
 use Rattle.slot_laws.proofs.After.{after-table, after-clock}
 use Rattle.slot_laws.proofs.Choosing.{Ranking, choose-choice, choose-pending}
 use Rattle.slot_laws.proofs.Placing.{place-length, place-holds}
@@ -233,13 +234,13 @@ module _ {st : State} (kept : Kept st) (cores : List ℕ) (backed : Backed st co
         misses-few = omega (arith, effect-misses st (ready st) cores);
       }
 
--- the order of a table names no task twice, and no task 0
+-- an order by priority names no task twice, and no task 0
+pub priority-ranking : {tbl : Table} {ranks : List ℕ} → Priority tbl ranks → Ranking ranks
+priority-ranking {tbl} r = record { once = λ i. omega (arith, r .permutes i, count-numbers-le i (size tbl)); real = ranks-none r 0 (inl refl) }
+
+-- so does the order of a table
 pub order-ranking : (tbl : Table) → Ranking (order tbl)
-order-ranking tbl =
-    record {
-      once = λ i. omega (arith, order-count tbl (eqb i), count-numbers-le i (size tbl));
-      real = order-none tbl 0 (inl refl);
-    }
+order-ranking tbl = priority-ranking (order-priority tbl)
 
 -- the placing of a slot is such a one
 pub slot-backed : {st : State} → Kept st → Backed st (slot st .shown .cores)

@@ -4,7 +4,9 @@ pub mod Placing
 pub mod Forms
 pub mod Books
 pub mod Lengths
+pub mod Given
 pub mod Boundaries
+pub mod Obeying
 pub mod WorkCounts
 pub mod MoveCounts
 pub mod MissCounts
