@@ -1,15 +1,14 @@
 -- The theorem: of an accepted and admitted table, any run whose first b slots obey is on time at boundary b.
-use Prim.Native.Nat.{ℕ, zero, suc, _<_}
-use mathlib.Core.Path.{_≡_, refl}
+use Prim.Native.Nat.{ℕ}
 use mathlib.Core.List.{List}
-use native.Mathlib.Nat.{le-refl, le-step, le-of-suc-le}
+use native.Mathlib.Nat.{le-refl, le-of-suc-le}
 use lib.Dec.{T}
 use lib.ListN.{take}
 use Rattle.rules.specs.Tables.{Table, accepts}
 use Rattle.rules.specs.Verdicts.{admitted}
-use Rattle.rules.specs.Counts.{sumBefore, workOfAll}
 use Rattle.rules.specs.Obeys.{Priority, Rightly, Obeys, lightsOf}
 use Rattle.slot_laws.proofs.Forms.{Accepted, accepted}
+use Rattle.slot_laws.proofs.SameSlots.{work-all-same}
 use Rattle.bound.specs.OnTime.{OnTime}
 use Rattle.bound.proofs.NoMiss.{slot-misses-none, run-misses-none, run-dropped-none}
 use Rattle.bound.proofs.KeepUp.{lights-keep-up}
@@ -26,12 +25,6 @@ endless tbl a t ranks run r right b =
       lights-ahead = lights-keep-up tbl ranks r run right a t b;
     }
 
--- the work before boundary b is that of the placings before it
-work-same : (run other : ℕ → List ℕ) (is : List ℕ) (b : ℕ) → ((s : ℕ) → s < b → run s ≡ other s) → workOfAll run is b ≡ workOfAll other is b
-unfolding workOfAll sumBefore
-work-same run other is zero h = refl
-work-same run other is (suc b) h = rw (work-same run other is b (λ s l. h s (le-step l)), h b (le-refl (suc b)))
-
 pub on-time : (tbl : Table) → T (accepts tbl) → T (admitted tbl) → (ranks : List ℕ) (run : ℕ → List ℕ) (b : ℕ) → Obeys tbl ranks run b → OnTime tbl ranks run b
 on-time tbl t u ranks run b o =
     let long : ℕ → List ℕ = prolonged tbl ranks run b in
@@ -40,5 +33,5 @@ on-time tbl t u ranks run b o =
       no-miss = rw (prolonged-state tbl ranks run b b (le-refl b)) at (w .no-miss);
       no-drop = rw (prolonged-state tbl ranks run b b (le-refl b)) at (w .no-drop);
       none-shown = λ s h. rw (prolonged-same tbl ranks run b s h, prolonged-state tbl ranks run b s (le-of-suc-le h)) at (w .none-shown s h);
-      lights-ahead = λ k. rw (work-same long run (take k (lightsOf tbl ranks)) b (prolonged-same tbl ranks run b)) at (w .lights-ahead k);
+      lights-ahead = λ k. rw (work-all-same long run b (prolonged-same tbl ranks run b) (take k (lightsOf tbl ranks)) b (le-refl b)) at (w .lights-ahead k);
     }

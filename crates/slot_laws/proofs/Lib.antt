@@ -11,3 +11,4 @@ pub mod WorkCounts
 pub mod MoveCounts
 pub mod MissCounts
 pub mod Counts
+pub mod SameSlots
