@@ -9,7 +9,6 @@ pub mod Passing
 pub mod Forming
 pub mod Starting
 pub mod Asking
-pub mod Releasing
 pub mod Leading
 pub mod Totalling
 pub mod Unique

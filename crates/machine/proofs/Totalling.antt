@@ -1,24 +1,22 @@
 -- The totals: the units dropped, summed along the tasks, and the frame.
-use Prim.Native.Nat.{ℕ, suc, _+_, _-_, _^_, _≤_, _<_, zero-le}
+use Prim.Native.Nat.{ℕ, _+_, _-_, _^_, _≤_, _<_, zero-le}
 use mathlib.Core.Path.{_≡_, refl, ap, _∙_}
 use mathlib.Core.Bool.{true, false}
 use mathlib.Core.List.{List, [], _∷_, _++_, append-assoc, append-nil}
-use native.Mathlib.Nat.{mul-le-mul-right}
 use native.Mathlib.Omega.{arith}
 use borrow.Rule.Slice.PartMut.{midOf, putMid}
 use lib.ListN.{length, getD, drop, drop-of-length-le}
 use Rattle.laws.specs.Lists.{sum}
 use Rattle.laws.specs.Digits.{field}
-use Rattle.laws.proofs.Walks.{sum-split, sum-most}
+use Rattle.laws.proofs.Walks.{sum-split}
 use Rattle.rules.specs.Limits.{tasksMax, clockMax}
-use Rattle.rules.specs.Rows as Rows
-use Rattle.rules.specs.Tables.{size, rowOf}
 use Rattle.rules.specs.Frames.{lineFeed, totals, fields, frame}
 use Rattle.rules.specs.Runs.{totalsLine}
 use Rattle.rules.specs.Answers.{writeTotals}
 use Rattle.rules.specs.declared.refusal.Refusal.the-variants.{NoRoom, BadState}
 use Rattle.reading_laws.proofs.Frames.{length-frame}
 use Rattle.slot_laws.proofs.Lengths.{length-totalsLine}
+use Rattle.slot_laws.proofs.Fitting.{dropped-small}
 use Rattle.tables.specs.Writes.{made, wrote, wroteText}
 use Rattle.tables.specs.declared.write.WriteAnswer.the-variants.{Written, Refused}
 use Rattle.tables.proofs.Written.{text-short, text-written}
@@ -27,10 +25,9 @@ use Rattle.slot_laws.proofs.Forms.{Kept, formed-kept, formed-clock}
 use Rattle.machine.specs.declared.state.State.{State}
 use Rattle.machine.specs.Full.{Full}
 use Rattle.machine.specs.Views.{tasks, units, view, formed}
-use Rattle.machine.proofs.Viewing.{length-viewed, getD-viewed, size-view}
+use Rattle.machine.proofs.Viewing.{length-viewed, getD-viewed}
 use Rattle.machine.proofs.Packing.{padded-few}
 use Rattle.machine.proofs.Asking.{formed-says, text-ill, text-well}
-use Rattle.machine.proofs.Releasing.{releasedMax, released-most}
 
 -- ---- the units dropped
 
@@ -48,26 +45,9 @@ module _ (s : State) (full : Full s) (ok : formed s ≡ true) where
   unfolding view
   long = length-viewed (λ x. x .0) (tasks s) (s .dropped) (omega (arith, full .dropped, few))
 
-  sizes : size (view s .table) ≡ tasks s
-  unfolding view
-  sizes = size-view (s .table) (full .rows) few
-
   here : (i : ℕ) → i < tasks s → getD (view s .dropped) i 0 ≡ getD (s .dropped) i (units 0) .0
   unfolding view
   here i more = getD-viewed (λ x. x .0) (tasks s) (s .dropped) (omega (arith, full .dropped, few)) (units 0) i refl more
-
-  -- no task has dropped more than was released
-  dropped-most : (i : ℕ) → i < length (view s .dropped) → getD (view s .dropped) i 0 ≤ releasedMax
-  unfolding Rows.released Rows.releasesBefore Rows.demand
-  dropped-most i more =
-      let inside : suc i ≤ size (view s .table) = omega (arith, long, sizes) in
-      let row = kept .taken .row (suc i) (omega arith) inside in
-      let r : Rows.Row = rowOf (view s .table) (suc i) in
-      omega (arith, kept .task (suc i) (omega arith) inside .books, released-most (r .c) (r .t) (view s .clock) (omega (arith, row .fits, row .period)) (row .period) soon)
-
-  -- so that all units dropped fit 64 bits
-  pub dropped-small : sum (view s .dropped) < 2 ^ 64
-  dropped-small = omega (arith, sum-most (view s .dropped) releasedMax dropped-most, mul-le-mul-right releasedMax few, long)
 
 -- after i tasks
 pub record Summed (s : State) (units i : ℕ) : Type 0 where
@@ -96,7 +76,7 @@ module _ (s : State) where
 
       -- the sum does not wrap
       pub fits : sofar + getD (s .dropped) i (units 0) .0 < 2 ^ 64
-      fits = omega (arith, next, dropped-small s (g .full) (g .ok))
+      fits = omega (arith, next, dropped-small (kept s (g .full) (g .ok)) (soon s (g .full) (g .ok)))
 
       pub turn : Summed s (sofar + getD (s .dropped) i (units 0) .0) (i + 1)
       turn = record { full = g .full; ok = g .ok; within = omega arith; whole = next }

@@ -2,10 +2,9 @@
 use Prim.Native.Nat.{ℕ, zero, suc, _+_, _≤_, _<_}
 use mathlib.Core.Path.{_≡_, refl, sym, ap, _∙_}
 use mathlib.Core.Bool.{Bool, true, false, cond}
-use mathlib.Core.Logic.{_⊎_, inl, inr, ⊎-elim}
+use mathlib.Core.Logic.{_⊎_, ⊎-elim}
 use mathlib.Core.List.{List, _++_, map}
 use native.Mathlib.Nat.{le-trans, le-of-suc-le-suc, eq-or-lt-of-le}
-use native.Mathlib.Decide.{decLt}
 use native.Mathlib.Omega.{arith}
 use lib.Dec.{eqb}
 use lib.ListN.{length, take, drop, getD, length-append}
@@ -17,7 +16,7 @@ use Rattle.laws.proofs.Each.{length-from}
 use Rattle.laws.proofs.Entries.{count-numbers-le}
 use Rattle.laws.proofs.Filters.{count-as-sum, length-as-sum, length-filter}
 use Rattle.laws.proofs.Positions.{StandsAt, position-stands}
-use Rattle.laws.proofs.Sorted.{Stands, stands-getD, stands-filter, count-from-none, count-from-once, at-sorted, sorted-at, passing-first}
+use Rattle.laws.proofs.Sorted.{Stands, stands-getD, stands-from, stands-filter, count-from-none, count-from-once, at-sorted, sorted-at, passing-first}
 use Rattle.laws.proofs.Sums.{same-sums, distinct-all}
 use Rattle.rules.specs.Tables.{Table, size}
 use Rattle.rules.specs.Verdicts.{heavy, light, heavyCount, order}
@@ -93,19 +92,14 @@ module _ {tbl : Table} {ranks : List ℕ} (r : Priority tbl ranks) where
   -- ---- ranks and tasks
 
   -- a task of the order is one of the table
+  pub ranks-within : (i : ℕ) → Stands i ranks → (1 ≤ i) × (i ≤ size tbl)
+  ranks-within i s = omega (arith, stands-from i 1 (size tbl) (rw (r .permutes i) at s))
+
   pub task-low : (k : ℕ) → k < size tbl → 1 ≤ getD ranks k 0
-  task-low k h =
-      elim (decLt 0 (getD ranks k 0)) [
-        | yes l ↦ l
-        | no l ↦ absurd (omega (arith, stands-getD ranks k (rw ranks-length h), ranks-none (getD ranks k 0) (inl (omega arith))))
-      ]
+  task-low k h = ranks-within (getD ranks k 0) (stands-getD ranks k (rw ranks-length h)) .0
 
   pub task-high : (k : ℕ) → k < size tbl → getD ranks k 0 ≤ size tbl
-  task-high k h =
-      elim (decLt (size tbl) (getD ranks k 0)) [
-        | yes l ↦ absurd (omega (arith, stands-getD ranks k (rw ranks-length h), ranks-none (getD ranks k 0) (inr l)))
-        | no l ↦ omega arith
-      ]
+  task-high k h = ranks-within (getD ranks k 0) (stands-getD ranks k (rw ranks-length h)) .1
 
   -- the rank of a task
   pub rank-of : (i : ℕ) → 1 ≤ i → i ≤ size tbl → (k : ℕ) × (k < size tbl) × (getD ranks k 0 ≡ i)

@@ -6,13 +6,14 @@ use mathlib.Core.Logic.{_⊎_, inl, inr}
 use mathlib.Core.Option.{Option, none, some, Option·some-injective, Option·none-ne-some}
 use native.Mathlib.Omega.{arith}
 use lib.Dec.{eqb, leb, leb→le, eqb→eq}
-use lib.ListN.{length, take, drop, length-append, take-append-drop}
+use lib.ListN.{length, take, drop, replicate, length-append, take-append-drop}
 use lib.Seq.{length-take-le, take-at, drop-at}
 use borrow.Author.Tests.{le-leb, eq-eqb}
 use Rattle.laws.specs.Lists.{sum}
 use Rattle.laws.specs.Digits.{field, value}
 use Rattle.laws.proofs.Options.{then-some, guard-some}
 use Rattle.laws.proofs.Digits.{length-field, value-field, value-some}
+use Rattle.laws.proofs.Sorted.{Stands, stands-here, stands-later}
 use Rattle.rules.specs.Frames.{Shape, lineFeed, fields, frame, Read, readField, readFields, readEnd, readFrame}
 use Rattle.reading_laws.specs.Frames.{Fits, Begins}
 
@@ -67,6 +68,20 @@ unfolding fields
 length-fields [] vs e = refl
 length-fields (w ∷ ws) [] e = absurd (omega arith)
 length-fields (w ∷ ws) (v ∷ vs) e = omega (arith, length-append (field w v) (fields ws vs), length-field w v, length-fields ws vs (omega arith))
+
+-- ---- numbers that fit their fields
+
+-- fields one after the other
+pub fits-append : (ws vs ws′ vs′ : List ℕ) → Fits ws vs → Fits ws′ vs′ → Fits (ws ++ ws′) (vs ++ vs′)
+fits-append [] [] ws′ vs′ f g = g
+fits-append [] (v ∷ vs) ws′ vs′ f g = absurd f
+fits-append (w ∷ ws) [] ws′ vs′ f g = absurd f
+fits-append (w ∷ ws) (v ∷ vs) ws′ vs′ f g = (f .0, fits-append ws vs ws′ vs′ (f .1) g)
+
+-- fields of w digits each
+pub fits-each : (w : ℕ) (vs : List ℕ) → ((v : ℕ) → Stands v vs → v < 16 ^ w) → Fits (replicate (length vs) w) vs
+fits-each w [] h = tt
+fits-each w (v ∷ vs) h = (h v (stands-here v vs), fits-each w vs (λ x s. h x (stands-later x v vs s)))
 
 -- ---- a frame
 

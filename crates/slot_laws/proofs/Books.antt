@@ -24,8 +24,8 @@ use Rattle.rules.specs.Counts.{sumBefore}
 use Rattle.rules.specs.Obeys.{Priority}
 use Rattle.priority_laws.proofs.Priority.{ranks-none, order-priority}
 use Rattle.slot_laws.proofs.After.{after-table, after-clock}
-use Rattle.slot_laws.proofs.Choosing.{Ranking, choose-choice, choose-pending}
-use Rattle.slot_laws.proofs.Placing.{place-length, place-holds}
+use Rattle.slot_laws.proofs.Choosing.{Ranking, choose-pending}
+use Rattle.slot_laws.proofs.Placing.{place-length, slot-chosen}
 use Rattle.slot_laws.proofs.Forms.{Accepted, accepted, TaskKept, Kept, formed-kept, kept-formed}
 
 -- ---- the clock's tick
@@ -242,24 +242,40 @@ priority-ranking {tbl} r = record { once = λ i. omega (arith, r .permutes i, co
 pub order-ranking : (tbl : Table) → Ranking (order tbl)
 order-ranking tbl = priority-ranking (order-priority tbl)
 
--- the placing of a slot is such a one
+-- the order that is kept in a state is the table's, so it is one by priority and names no task twice, and no task 0
+pub kept-priority : {st : State} → Kept st → Priority (st .table) (st .ranks)
+kept-priority {st} kept = rw (kept .ranked) (order-priority (st .table))
+
+pub kept-ranking : {st : State} → Kept st → Ranking (st .ranks)
+kept-ranking kept = priority-ranking (kept-priority kept)
+
+-- the placing of a slot is one that it may have
 pub slot-backed : {st : State} → Kept st → Backed st (slot st .shown .cores)
 unfolding slot effect given
 slot-backed {st} kept =
     record {
       width = omega (arith, place-length (st .table .m) (st .last) (choose (st .table .m) (st .ranks) (ready st)));
-      within =
-          λ i low high.
-          omega (arith, place-holds (choose-choice (st .table .m) (ready st) ranking) (st .last) i low, choose-pending (st .table .m) (ready st) ranking i);
+      within = λ i low high. omega (arith, slot-chosen st (kept-ranking kept) i low, choose-pending (st .table .m) (ready st) (kept-ranking kept) i);
     }
-  where
-    ranking : Ranking (st .ranks)
-    ranking = rw (kept .ranked) (order-ranking (st .table))
 
 -- one slot keeps a state well formed, but for the bound of its clock
 pub slot-kept : {st : State} → Kept st → Kept (slot st .next)
 unfolding slot effect
 slot-kept {st} kept = effect-kept kept (slot st .shown .cores) (slot-backed kept)
+
+-- a slot shows its number, no more moves than it has cores and no more misses than there are tasks
+module _ (st : State) where
+  pub slot-number : slot st .shown .slot ≡ st .clock
+  unfolding slot effect
+  slot-number = refl
+
+  pub slot-moves : slot st .shown .moves ≤ length (slot st .shown .cores)
+  unfolding slot effect
+  slot-moves = effect-moves st (ready st) (slot st .shown .cores)
+
+  pub slot-misses : slot st .shown .misses ≤ size (st .table)
+  unfolding slot effect
+  slot-misses = effect-misses st (ready st) (slot st .shown .cores)
 
 -- one slot takes the clock one on
 pub slot-clock : (st : State) → slot st .next .clock ≡ suc (st .clock)

@@ -2,6 +2,7 @@ pub mod After
 pub mod Choosing
 pub mod Placing
 pub mod Forms
+pub mod Releasing
 pub mod Books
 pub mod Lengths
 pub mod Given
@@ -12,3 +13,4 @@ pub mod MoveCounts
 pub mod MissCounts
 pub mod Counts
 pub mod SameSlots
+pub mod Fitting

@@ -430,10 +430,12 @@ place-others {m} {chosen} c last =
 
 -- ---- one slot
 
--- a task never holds two cores in a slot
-pub slot-once : (st : State) → Ranking (st .ranks) → (i : ℕ) → 1 ≤ i → count (eqb i) (slot st .shown .cores) ≤ 1
-unfolding slot effect
-slot-once st r i h =
-    let released : List ℕ = release (st .table) (st .clock) (st .left) in
-    let c : Choice (st .table .m) (choose (st .table .m) (st .ranks) released) = choose-choice (st .table .m) released r in
-    omega (arith, place-holds c (st .last) i h, c .once i)
+module _ (st : State) (r : Ranking (st .ranks)) (i : ℕ) (low : 1 ≤ i) where
+  -- a task stands on one core where it is chosen, and else on none
+  pub slot-chosen : count (eqb i) (slot st .shown .cores) ≡ count (eqb i) (choose (st .table .m) (st .ranks) (release (st .table) (st .clock) (st .left)))
+  unfolding slot effect
+  slot-chosen = place-holds (choose-choice (st .table .m) (release (st .table) (st .clock) (st .left)) r) (st .last) i low
+
+  -- so it never holds two cores
+  pub slot-once : count (eqb i) (slot st .shown .cores) ≤ 1
+  slot-once = rw slot-chosen (choose-choice (st .table .m) (release (st .table) (st .clock) (st .left)) r .once i)

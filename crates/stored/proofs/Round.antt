@@ -3,8 +3,6 @@ use Prim.Native.Nat.{ℕ, suc, _+_, _-_, _*_, _^_, _≤_, _<_}
 use mathlib.Core.Path.{_≡_, refl, sym, ap, ap₂, _∙_}
 use mathlib.Core.Bool.{Bool, true, false, not}
 use mathlib.Core.List.{List, [], _∷_, _++_, map, map-id, map-map}
-use mathlib.Core.Logic.{inr}
-use native.Mathlib.Decide.{decLe}
 use native.Mathlib.Nat.{mul-le-mul}
 use native.Mathlib.Omega.{arith}
 use lib.Dec.{T, eqb, eqb→eq}
@@ -16,34 +14,26 @@ use Rattle.laws.proofs.Tests.{of-T}
 use Rattle.laws.proofs.Each.{length-from, at-each, each-cong, each-at, map-from-cong}
 use Rattle.laws.proofs.Filling.{at-pred}
 use Rattle.laws.proofs.Filters.{map-from-getD}
-use Rattle.laws.proofs.Positions.{entry-counted}
 use Rattle.rules.specs.Limits.{clockMax}
-use Rattle.rules.specs.Rows.{Row, demand, releasesBefore, released}
-use Rattle.rules.specs.Tables.{Table, size, noRow, rowOf}
-use Rattle.rules.specs.Verdicts.{order}
+use Rattle.rules.specs.Rows.{Row, released}
+use Rattle.rules.specs.Tables.{size, noRow, rowOf}
 use Rattle.rules.specs.States.{State}
 use Rattle.rules.specs.Forms.{wellFormed}
 use Rattle.rules.specs.Refusals.{test, passes, taken, refused}
 use Rattle.rules.specs.Answers.{stateTest}
 use Rattle.rules.specs.declared.refusal.Refusal.the-variants.{BadState}
-use Rattle.priority_laws.proofs.Order.{order-none, order-length}
+use Rattle.priority_laws.proofs.Order.{order-length}
+use Rattle.priority_laws.proofs.Priority.{task-high}
 use Rattle.reading_laws.proofs.Tests.{settle-taken}
 use Rattle.reading_laws.specs.Bounds.{RowInBounds}
 use Rattle.slot_laws.proofs.Forms.{TaskKept, Kept, formed-kept, formed-clock}
-use Rattle.machine.proofs.Releasing.{released-most}
+use Rattle.slot_laws.proofs.Releasing.{released-few}
+use Rattle.slot_laws.proofs.Books.{kept-priority}
 use Rattle.stored.specs.Layout.{written, readOff, fixedWidths, taskWidths, placeOf, lengthOf, fixedOf, taskOf, recordOf, store, fixedIn, taskIn, sizeIn, decoded, load}
 use Rattle.stored.proofs.Numbers.{Bytes}
 use Rattle.stored.proofs.Fields.{Fit, length-written, read-written, bytes-drop, written-read, length-records, drop-records, join-stretches}
 
 -- ---- the numbers of a well-formed state fit their fields
-
--- every task that the order names is one of the table
-order-within : (tbl : Table) (j : ℕ) → j < size tbl → getD (order tbl) j 0 ≤ size tbl
-order-within tbl j h =
-    elim (decLe (getD (order tbl) j 0) (size tbl)) [
-      | yes l ↦ l
-      | no n ↦ absurd (omega (arith, order-none tbl (getD (order tbl) j 0) (inr (omega arith)), entry-counted (order tbl) j (omega (arith, order-length tbl))))
-    ]
 
 module _ {st : State} (kept : Kept st) (clock : st .clock ≤ clockMax) where
   fixed-fits : Fit fixedWidths (fixedOf st)
@@ -53,13 +43,10 @@ module _ {st : State} (kept : Kept st) (clock : st .clock ≤ clockMax) where
 
   module _ (i : ℕ) (low : 1 ≤ i) (high : i ≤ size (st .table)) where
     released-small : released (rowOf (st .table) i) (st .clock) < 2 ^ 64
-    unfolding released releasesBefore demand
-    released-small =
-        let row : RowInBounds (rowOf (st .table) i) = kept .taken .row i low high in
-        omega (arith, released-most (rowOf (st .table) i .c) (rowOf (st .table) i .t) (st .clock) (omega arith) (omega arith) clock)
+    released-small = omega (arith, released-few (kept .taken) i low high (st .clock) clock)
 
     rank-small : at (st .ranks) i < 256
-    rank-small = rw (kept .ranked, at-pred (order (st .table)) i low) (omega (arith, kept .taken, order-within (st .table) (i - 1) (omega arith)))
+    rank-small = rw (at-pred (st .ranks) i low) (omega (arith, kept .taken, task-high (kept-priority kept) (i - 1) (omega arith)))
 
     task-fits : Fit taskWidths (taskOf st i)
     task-fits =

@@ -3,7 +3,7 @@ use borrow.Author.Needs.{needs}
 use mathlib.Core.Path.{refl}
 use native.Mathlib.Omega.{arith}
 use Rattle.rules.specs.Rows.{released, releasesBefore, demand}
-use Rattle.machine.proofs.Releasing.{released-most}
+use Rattle.slot_laws.proofs.Releasing.{released-most}
 use Rattle.machine.proofs.form.released.Statement.{statement}
 use Rattle.machine.proofs.form.released.Tie as tie
 
