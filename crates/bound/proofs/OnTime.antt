@@ -1,16 +1,18 @@
--- The theorem: of an accepted and admitted table, any run whose first b slots obey is on time at boundary b.
-use Prim.Native.Nat.{ℕ, zero, suc, _<_}
+-- The theorem: a run of an accepted and admitted table is on time as long as it obeys.
+use Prim.Native.Nat.{ℕ, zero, suc, _≤_, _<_}
 use mathlib.Core.Path.{_≡_, refl}
 use mathlib.Core.List.{List}
 use native.Mathlib.Nat.{le-refl, le-step, le-of-suc-le}
+use native.Mathlib.Omega.{arith}
 use lib.Dec.{T}
 use lib.ListN.{take}
-use Rattle.rules.specs.Tables.{Table, accepts}
+use Rattle.rules.specs.Tables.{Table}
 use Rattle.rules.specs.Verdicts.{admitted}
 use Rattle.rules.specs.Counts.{sumBefore, workOfAll}
 use Rattle.rules.specs.Obeys.{Priority, Rightly, Obeys, lightsOf}
 use Rattle.slot_laws.proofs.Forms.{Accepted, accepted}
-use Rattle.bound.specs.OnTime.{OnTime}
+use Rattle.slot_laws.proofs.Given.{stateWith}
+use Rattle.bound.specs.OnTime.{OnTime, OnTimeAlways}
 use Rattle.bound.proofs.NoMiss.{slot-misses-none, run-misses-none, run-dropped-none}
 use Rattle.bound.proofs.KeepUp.{lights-keep-up}
 use Rattle.bound.proofs.Prolonged.{prolonged, prolonged-same, prolonged-state, prolonged-rightly}
@@ -32,13 +34,15 @@ unfolding workOfAll sumBefore
 work-same run other is zero h = refl
 work-same run other is (suc b) h = rw (work-same run other is b (λ s l. h s (le-step l)), h b (le-refl (suc b)))
 
-pub on-time : (tbl : Table) → T (accepts tbl) → T (admitted tbl) → (ranks : List ℕ) (run : ℕ → List ℕ) (b : ℕ) → Obeys tbl ranks run b → OnTime tbl ranks run b
-on-time tbl t u ranks run b o =
+pub on-time : OnTimeAlways
+on-time tbl t a ranks run b o u h =
     let long : ℕ → List ℕ = prolonged tbl ranks run b in
-    let w : OnTime tbl ranks long b = endless tbl (accepted tbl t) u ranks long (o .priority) (prolonged-rightly tbl ranks run b (o .rightly)) b in
+    let w : OnTime tbl ranks long u = endless tbl (accepted tbl t) a ranks long (o .priority) (prolonged-rightly tbl ranks run b (o .rightly)) u in
+    let state : (s : ℕ) → s ≤ u → stateWith tbl ranks long s ≡ stateWith tbl ranks run s = λ s l. prolonged-state tbl ranks run b s (omega arith) in
+    let same : (s : ℕ) → s < u → long s ≡ run s = λ s l. prolonged-same tbl ranks run b s (omega arith) in
     record {
-      no-miss = rw (prolonged-state tbl ranks run b b (le-refl b)) at (w .no-miss);
-      no-drop = rw (prolonged-state tbl ranks run b b (le-refl b)) at (w .no-drop);
-      none-shown = λ s h. rw (prolonged-same tbl ranks run b s h, prolonged-state tbl ranks run b s (le-of-suc-le h)) at (w .none-shown s h);
-      lights-ahead = λ k. rw (work-same long run (take k (lightsOf tbl ranks)) b (prolonged-same tbl ranks run b)) at (w .lights-ahead k);
+      no-miss = rw (state u (le-refl u)) at (w .no-miss);
+      no-drop = rw (state u (le-refl u)) at (w .no-drop);
+      none-shown = λ s l. rw (same s l, state s (le-of-suc-le l)) at (w .none-shown s l);
+      lights-ahead = λ k. rw (work-same long run (take k (lightsOf tbl ranks)) u same) at (w .lights-ahead k);
     }
