@@ -1,5 +1,4 @@
 -- Demand 3 holds, for a table's own run obeys.
-use native.Mathlib.Nat.{le-refl}
 use native.Mathlib.Omega.{arith}
 use Rattle.rules.specs.Verdicts.{order, lights}
 use Rattle.rules.specs.Counts.{coresIn}
@@ -12,7 +11,7 @@ use Rattle.bound.proofs.OnTime.{on-time}
 pub demand-3 : Demand3Always
 unfolding lights
 demand-3 tbl t a b =
-    let w : OnTime tbl (order tbl) (coresIn tbl) b = on-time tbl t a (order tbl) (coresIn tbl) b (own-obeys tbl b) b (le-refl b) in
+    let w : OnTime tbl (order tbl) (coresIn tbl) b = on-time tbl t a (order tbl) (coresIn tbl) b (own-obeys tbl b) b (omega arith) in
     record {
       no-miss = rw (own-run tbl b) (w .no-miss);
       no-drop = rw (own-run tbl b) (w .no-drop);

@@ -4,28 +4,29 @@ use mathlib.Core.Path.{_≡_, refl}
 use mathlib.Core.List.{List}
 use native.Mathlib.Nat.{le-refl, le-step, le-of-suc-le}
 use native.Mathlib.Omega.{arith}
-use lib.Dec.{T}
+use lib.Dec.{leb→le}
 use lib.ListN.{take}
 use Rattle.rules.specs.Tables.{Table}
-use Rattle.rules.specs.Verdicts.{admitted}
+use Rattle.rules.specs.Verdicts.{fraction, admitted}
 use Rattle.rules.specs.Counts.{sumBefore, workOfAll}
 use Rattle.rules.specs.Obeys.{Priority, Rightly, Obeys, lightsOf}
 use Rattle.slot_laws.proofs.Forms.{Accepted, accepted}
 use Rattle.slot_laws.proofs.Given.{stateWith}
 use Rattle.bound.specs.OnTime.{OnTime, OnTimeAlways}
+use Rattle.bound.proofs.Ranked.{WithinLimit}
 use Rattle.bound.proofs.NoMiss.{slot-misses-none, run-misses-none, run-dropped-none}
 use Rattle.bound.proofs.KeepUp.{lights-keep-up}
 use Rattle.bound.proofs.Prolonged.{prolonged, prolonged-same, prolonged-state, prolonged-rightly}
 
 -- a run that obeys in every slot is always on time
-endless : (tbl : Table) → Accepted tbl → T (admitted tbl) → (ranks : List ℕ) (run : ℕ → List ℕ) → Priority tbl ranks
+endless : (tbl : Table) → Accepted tbl → WithinLimit tbl → (ranks : List ℕ) (run : ℕ → List ℕ) → Priority tbl ranks
     → ((s : ℕ) → Rightly tbl ranks run s) → (b : ℕ) → OnTime tbl ranks run b
-endless tbl a t ranks run r right b =
+endless tbl a within ranks run r right b =
     record {
-      no-miss = run-misses-none tbl a t ranks run r right b;
-      no-drop = run-dropped-none tbl a t ranks run r right b;
-      none-shown = λ s h. slot-misses-none tbl a t ranks run r right s;
-      lights-ahead = lights-keep-up tbl ranks r run right a t b;
+      no-miss = run-misses-none tbl a within ranks run r right b;
+      no-drop = run-dropped-none tbl a within ranks run r right b;
+      none-shown = λ s h. slot-misses-none tbl a within ranks run r right s;
+      lights-ahead = lights-keep-up tbl ranks r run right a within b;
     }
 
 -- the work before boundary b is that of the placings before it
@@ -35,9 +36,11 @@ work-same run other is zero h = refl
 work-same run other is (suc b) h = rw (work-same run other is b (λ s l. h s (le-step l)), h b (le-refl (suc b)))
 
 pub on-time : OnTimeAlways
+unfolding admitted fraction
 on-time tbl t a ranks run b o u h =
+    let within : WithinLimit tbl = omega (arith, leb→le) in
     let long : ℕ → List ℕ = prolonged tbl ranks run b in
-    let w : OnTime tbl ranks long u = endless tbl (accepted tbl t) a ranks long (o .priority) (prolonged-rightly tbl ranks run b (o .rightly)) u in
+    let w : OnTime tbl ranks long u = endless tbl (accepted tbl t) within ranks long (o .priority) (prolonged-rightly tbl ranks run b (o .rightly)) u in
     let state : (s : ℕ) → s ≤ u → stateWith tbl ranks long s ≡ stateWith tbl ranks run s = λ s l. prolonged-state tbl ranks run b s (omega arith) in
     let same : (s : ℕ) → s < u → long s ≡ run s = λ s l. prolonged-same tbl ranks run b s (omega arith) in
     record {
