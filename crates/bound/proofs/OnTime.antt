@@ -9,7 +9,7 @@ use lib.ListN.{take}
 use Rattle.rules.specs.Tables.{Table}
 use Rattle.rules.specs.Verdicts.{fraction, admitted}
 use Rattle.rules.specs.Counts.{sumBefore, workOfAll}
-use Rattle.rules.specs.Obeys.{Priority, Rightly, Obeys, lightsOf}
+use Rattle.rules.specs.Obeys.{Priority, Rightly, lightsOf}
 use Rattle.slot_laws.proofs.Forms.{Accepted, accepted}
 use Rattle.slot_laws.proofs.Given.{stateWith}
 use Rattle.bound.specs.OnTime.{OnTime, OnTimeAlways}
