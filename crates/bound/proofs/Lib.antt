@@ -16,3 +16,4 @@ pub mod Demand3
 pub mod Rounds
 pub mod Repetition
 pub mod Rival
+pub mod HigherLimit
