@@ -15,3 +15,5 @@ pub mod OnTime
 pub mod Demand3
 pub mod Rounds
 pub mod Repetition
+pub mod Rival
+pub mod HigherLimit

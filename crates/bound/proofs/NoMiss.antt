@@ -1,4 +1,4 @@
--- A run of an admitted table that obeys: every job is given its demand by its deadline, so nothing is missed or dropped.
+-- A run that obeys, of a table within the limit: every job is given its demand by its deadline, so nothing is missed or dropped.
 use Prim.Native.Nat.{ℕ, zero, suc, _+_, _-_, _*_, _/_, _%_, _≤_, _<_}
 use mathlib.Core.Path.{_≡_, refl, sym, _∙_}
 use mathlib.Core.Bool.{true, false, _&&_}
@@ -7,7 +7,7 @@ use mathlib.Core.List.{List}
 use native.Mathlib.Nat.{div-add-mod'}
 use native.Mathlib.Omega.{arith}
 use borrow.Author.Tests.{eqb-true}
-use lib.Dec.{T, ltb}
+use lib.Dec.{ltb}
 use lib.ListN.{length, getD, replicate, length-replicate}
 use Rattle.laws.specs.Lists.{at, numbers}
 use Rattle.laws.proofs.Tests.{decide}
@@ -16,7 +16,6 @@ use Rattle.laws.proofs.Filters.{count-as-sum}
 use Rattle.laws.proofs.Sums.{sum-map-zero}
 use Rattle.rules.specs.Rows.{Row, due, demand}
 use Rattle.rules.specs.Tables.{Table, size, rowOf}
-use Rattle.rules.specs.Verdicts.{admitted}
 use Rattle.rules.specs.Counts.{sumBefore, workOf, shortAt, droppedBy}
 use Rattle.rules.specs.Obeys.{slotWith, afterWith, Priority, Rightly}
 use Rattle.priority_laws.proofs.Priority.{ranks-all, rank-of}
@@ -25,7 +24,7 @@ use Rattle.slot_laws.proofs.Given.{stateWith, dropped-length-with, next-misses-
 use Rattle.slot_laws.proofs.Obeying.{rightly-ready}
 use Rattle.slot_laws.proofs.MissCounts.{misses-shown-with, dropped-counted-with}
 use Rattle.bound.proofs.Theorem.{never-misses}
-use Rattle.bound.proofs.Ranked.{ranked, table-conditions}
+use Rattle.bound.proofs.Ranked.{WithinLimit, ranked, table-conditions}
 use Rattle.bound.proofs.Scheduled.{scheduled}
 
 -- a boundary after the first slot that is a multiple of T ends a job
@@ -36,13 +35,13 @@ job-end T s e = go (suc s / T) (omega (arith, div-add-mod' (suc s) T))
     go zero f = absurd (omega arith)
     go (suc a) f = (a, f)
 
-module _ (tbl : Table) (a : Accepted tbl) (t : T (admitted tbl)) where
+module _ (tbl : Table) (a : Accepted tbl) (within : WithinLimit tbl) where
   module _ (ranks : List ℕ) (run : ℕ → List ℕ) (r : Priority tbl ranks) (right : (s : ℕ) → Rightly tbl ranks run s) where
     -- the theorem over ranks, of the run's own work
     ranked-met : (k : ℕ) → k < size tbl → (j : ℕ)
         → workOf run (getD ranks k 0) (suc j * rowOf tbl (getD ranks k 0) .t) ≡ rowOf tbl (getD ranks k 0) .c + workOf run (getD ranks k 0) (j * rowOf tbl (getD ranks k 0) .t)
     unfolding workOf ranked scheduled
-    ranked-met k h j = never-misses (scheduled tbl ranks run r right a) (table-conditions tbl a ranks r t) k j (rw (ranks-all r) h)
+    ranked-met k h j = never-misses (scheduled tbl ranks run r right a) (table-conditions tbl a ranks r within) k j (rw (ranks-all r) h)
 
     module _ (i : ℕ) (low : 1 ≤ i) (high : i ≤ size tbl) where
       abbrev row : Row

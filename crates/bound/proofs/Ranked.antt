@@ -5,14 +5,13 @@ use mathlib.Core.List.{List, map}
 use native.Mathlib.Nat.{le-refl, le-trans, mul-le-mul-left, mul-lt-mul-of-pos-left, le-of-mul-le-mul-right, lt-of-mul-lt-mul-right}
 use native.Mathlib.Omega.{arith}
 use borrow.Author.Tests.{ltb-true, ltb-false}
-use lib.Dec.{T, leb→le}
 use lib.ListN.{length, getD}
 use lib.Seq.{take-length}
 use Rattle.laws.specs.Lists.{sum}
 use Rattle.rules.specs.Rows.{Row}
 use Rattle.rules.specs.Tables.{Table, rowOf}
 use Rattle.rules.specs.Repeat.{repeatLength}
-use Rattle.rules.specs.Verdicts.{fraction, heavyAt, heavy, heavyCount, share, scaledSum, admitted}
+use Rattle.rules.specs.Verdicts.{fraction, heavyAt, heavy, heavyCount, share, scaledSum}
 use Rattle.rules.specs.Counts.{sumBefore}
 use Rattle.rules.specs.Obeys.{Priority, lightsOf}
 use Rattle.priority_laws.proofs.Order.{rows-sum}
@@ -31,6 +30,10 @@ shareAt tbl ranks k = share (repeatLength (tbl .rows)) (rowOf tbl (getD ranks k 
 -- no period is 0
 pub accepted-periods : (tbl : Table) → Accepted tbl → Periodic tbl
 accepted-periods tbl a i low high = le-trans (a .row i low high .works) (a .row i low high .fits)
+
+-- the shares sum to at most m times the fraction: what admission says, as an inequality
+abbrev pub WithinLimit : Table → Type 0
+WithinLimit tbl = fraction (tbl .m) .den * scaledSum tbl ≤ tbl .m * fraction (tbl .m) .num * repeatLength (tbl .rows)
 
 -- the table's tasks, in an order by priority
 unfoldable pub ranked : (tbl : Table) → Accepted tbl → (ranks : List ℕ) → Priority tbl ranks → Tasks
@@ -81,9 +84,9 @@ module _ (tbl : Table) (a : Accepted tbl) (ranks : List ℕ) (r : Priority tbl r
       ∙ sym (rows-sum tbl (share (repeatLength (tbl .rows))))
 
   -- heavy, light and admitted in shares
-  shares-admitted : T (admitted tbl) → Admitted (ranked tbl a ranks r) (fraction (tbl .m) .num) (fraction (tbl .m) .den)
-  unfolding ranked admitted heavy heavyAt
-  shares-admitted t =
+  shares-admitted : WithinLimit tbl → Admitted (ranked tbl a ranks r) (fraction (tbl .m) .num) (fraction (tbl .m) .den)
+  unfolding ranked heavy heavyAt
+  shares-admitted within =
       record {
         heavy =
             λ k h.
@@ -95,7 +98,7 @@ module _ (tbl : Table) (a : Accepted tbl) (ranks : List ℕ) (r : Priority tbl r
             let k′ : k < tasks x = omega arith in
             let w : Row = rowOf tbl (getD ranks k 0) in
             light-share p q H (shareAt tbl ranks k) (w .t) (w .c) (x .even k k′) (x .timed k k′) (ltb-false (w .t * p) (w .c * q) (light-light r j h));
-        total = rw shares-all (omega (arith, leb→le (q * scaledSum tbl) (tbl .m * p * H) t));
+        total = rw shares-all (omega arith);
       }
     where
       x : Tasks
@@ -110,8 +113,8 @@ module _ (tbl : Table) (a : Accepted tbl) (ranks : List ℕ) (r : Priority tbl r
       H : ℕ
       H = repeatLength (tbl .rows)
 
-  -- an admitted table meets the conditions of the argument
-  pub table-conditions : T (admitted tbl) → Conditions (ranked tbl a ranks r) (tbl .m - suc (heavyCount tbl)) 1
+  -- a table within the limit meets the conditions of the argument
+  pub table-conditions : WithinLimit tbl → Conditions (ranked tbl a ranks r) (tbl .m - suc (heavyCount tbl)) 1
   unfolding ranked fraction
-  table-conditions t =
-      general-conditions {x = ranked tbl a ranks r} (fraction (tbl .m) .den) (a .cores-low) (omega (arith, a .cores-low)) (shares-admitted t) (light-rising r)
+  table-conditions within =
+      general-conditions {x = ranked tbl a ranks r} (fraction (tbl .m) .den) (a .cores-low) (omega (arith, a .cores-low)) (shares-admitted within) (light-rising r)

@@ -1,14 +1,14 @@
 -- Demand 3: what the verdict "admitted" promises of a table's own run. All is said in the rules' definitions, of the slots
--- that the machine runs from the fresh state, at every boundary. `proofs/Demand3.antt` proves it of every accepted and
--- admitted table.
+-- that the machine runs from the fresh state. `proofs/Demand3.antt` proves it.
 use Prim.Native.Nat.{ℕ, _*_, _≤_, _<_}
 use mathlib.Core.Path.{_≡_}
 use mathlib.Core.List.{map}
+use lib.Dec.{T}
 use lib.ListN.{take, replicate}
 use Rattle.laws.specs.Lists.{sum}
-use Rattle.rules.specs.Tables.{Table, size, rowOf}
+use Rattle.rules.specs.Tables.{Table, size, rowOf, accepts}
 use Rattle.rules.specs.Repeat.{repeatLength}
-use Rattle.rules.specs.Verdicts.{share, lights}
+use Rattle.rules.specs.Verdicts.{share, lights, admitted}
 use Rattle.rules.specs.States.{fresh}
 use Rattle.rules.specs.Slots.{slot}
 use Rattle.rules.specs.Runs.{after}
@@ -26,3 +26,7 @@ pub record Demand3 (tbl : Table) (b : ℕ) : Type 0 where
   pub lights-ahead : (k : ℕ)
       → b * sum (map (λ i. share (repeatLength (tbl .rows)) (rowOf tbl i)) (take k (lights tbl)))
       ≤ repeatLength (tbl .rows) * workOfAll (coresIn tbl) (take k (lights tbl)) b
+
+-- the theorem: it holds of every accepted and admitted table, at every boundary
+abbrev pub Demand3Always : Type 0
+Demand3Always = (tbl : Table) → T (accepts tbl) → T (admitted tbl) → (b : ℕ) → Demand3 tbl b

@@ -1,17 +1,19 @@
 -- What the verdict "admitted" promises of any run of a table with its own order and placings, whoever made it. All is said in
--- the rules' definitions, at boundary b. `proofs/OnTime.antt` proves it of every run whose first b slots obey.
+-- the rules' definitions. `proofs/OnTime.antt` proves it.
 use Prim.Native.Nat.{ℕ, _*_, _≤_, _<_}
 use mathlib.Core.Path.{_≡_}
 use mathlib.Core.List.{List, map}
+use lib.Dec.{T}
 use lib.ListN.{take, replicate}
 use Rattle.laws.specs.Lists.{sum}
-use Rattle.rules.specs.Tables.{Table, size, rowOf}
+use Rattle.rules.specs.Tables.{Table, size, rowOf, accepts}
 use Rattle.rules.specs.Repeat.{repeatLength}
-use Rattle.rules.specs.Verdicts.{share}
+use Rattle.rules.specs.Verdicts.{share, admitted}
 use Rattle.rules.specs.States.{freshWith}
 use Rattle.rules.specs.Counts.{workOfAll}
-use Rattle.rules.specs.Obeys.{slotWith, afterWith, lightsOf}
+use Rattle.rules.specs.Obeys.{slotWith, afterWith, lightsOf, Obeys}
 
+-- at boundary b of a run
 pub record OnTime (tbl : Table) (ranks : List ℕ) (run : ℕ → List ℕ) (b : ℕ) : Type 0 where
   -- no deadline was missed, and no unit of any task dropped
   pub no-miss : afterWith run b (freshWith tbl ranks) .misses ≡ 0
@@ -23,3 +25,10 @@ pub record OnTime (tbl : Table) (ranks : List ℕ) (run : ℕ → List ℕ) (b :
   pub lights-ahead : (k : ℕ)
       → b * sum (map (λ i. share (repeatLength (tbl .rows)) (rowOf tbl i)) (take k (lightsOf tbl ranks)))
       ≤ repeatLength (tbl .rows) * workOfAll run (take k (lightsOf tbl ranks)) b
+
+-- the theorem: where the first b slots of a run of an accepted and admitted table obey, it is on time at every boundary up to b
+abbrev pub OnTimeAlways : Type 0
+OnTimeAlways =
+    (tbl : Table) → T (accepts tbl) → T (admitted tbl)
+    → (ranks : List ℕ) (run : ℕ → List ℕ) (b : ℕ) → Obeys tbl ranks run b
+    → (u : ℕ) → u ≤ b → OnTime tbl ranks run u

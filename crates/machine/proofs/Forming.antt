@@ -12,7 +12,7 @@ use Rattle.rules.specs.Limits.{tasksMax, clockMax}
 use Rattle.rules.specs.Tables.{size, rowOf, accepts}
 use Rattle.rules.specs.Verdicts.{order}
 use Rattle.rules.specs.Forms.{sized, taskFormed, wellFormed}
-use Rattle.priority_laws.proofs.Order.{order-length}
+use Rattle.priority_laws.proofs.Priority.{order-length}
 use Rattle.reading_laws.specs.Bounds.{RowInBounds}
 use Rattle.slot_laws.proofs.Forms.{accepted}
 use Rattle.tables.specs.Views as Tables

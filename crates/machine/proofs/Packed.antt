@@ -15,7 +15,7 @@ use Rattle.rules.specs.Limits.{tasksMax}
 use Rattle.rules.specs.Tables.{size}
 use Rattle.rules.specs.States as States
 use Rattle.rules.specs.Forms.{wellFormed}
-use Rattle.priority_laws.proofs.Order.{order-length}
+use Rattle.priority_laws.proofs.Priority.{order-length}
 use Rattle.slot_laws.proofs.Forms.{Kept, formed-kept}
 use Rattle.tables.specs.Views as Tables
 use Rattle.machine.specs.Full.{Sized}

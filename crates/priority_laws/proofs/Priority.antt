@@ -158,3 +158,14 @@ order-priority tbl =
   where
     before-keys : (i j : ℕ) → Before (keyOf tbl) i j → keyOf tbl i ≤ keyOf tbl j
     before-keys i j b = ⊎-elim (λ l. omega arith) (λ e. omega arith) b
+
+module _ (tbl : Table) where
+  -- so it has n tasks, each of 1 to n once, and nothing else
+  pub order-length : length (order tbl) ≡ size tbl
+  order-length = ranks-length (order-priority tbl)
+
+  pub order-once : (i : ℕ) → 1 ≤ i → i ≤ size tbl → count (eqb i) (order tbl) ≡ 1
+  order-once = ranks-once (order-priority tbl)
+
+  pub order-none : (i : ℕ) → (i ≡ 0) ⊎ (size tbl < i) → count (eqb i) (order tbl) ≡ 0
+  order-none = ranks-none (order-priority tbl)

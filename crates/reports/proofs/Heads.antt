@@ -15,7 +15,7 @@ use Rattle.rules.specs.Tables.{size, accepts}
 use Rattle.rules.specs.Verdicts.{verdict, heavyCount, order}
 use Rattle.rules.specs.declared.refusal.Refusal.{Refusal}
 use Rattle.rules.specs.declared.verdict.Verdict.{Verdict}
-use Rattle.priority_laws.proofs.Order.{order-length}
+use Rattle.priority_laws.proofs.Priority.{order-length}
 use Rattle.reading_laws.proofs.Tests.{accepts-iff}
 use Rattle.tables.specs.Views.{view}
 use Rattle.tables.specs.declared.table.Table.{Table}

@@ -1,3 +1,4 @@
 pub mod Bounds
 pub mod Cases
 pub mod Unique
+pub mod Rivals

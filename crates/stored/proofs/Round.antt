@@ -22,8 +22,7 @@ use Rattle.rules.specs.Forms.{wellFormed}
 use Rattle.rules.specs.Refusals.{test, passes, taken, refused}
 use Rattle.rules.specs.Answers.{stateTest}
 use Rattle.rules.specs.declared.refusal.Refusal.the-variants.{BadState}
-use Rattle.priority_laws.proofs.Order.{order-length}
-use Rattle.priority_laws.proofs.Priority.{task-high}
+use Rattle.priority_laws.proofs.Priority.{order-length, task-high}
 use Rattle.reading_laws.proofs.Tests.{settle-taken}
 use Rattle.reading_laws.specs.Bounds.{RowInBounds}
 use Rattle.slot_laws.proofs.Forms.{TaskKept, Kept, formed-kept, formed-clock}

@@ -13,7 +13,7 @@ use Rattle.rules.specs.Tables as Tables
 use Rattle.rules.specs.Verdicts.{verdict, heavyCount, order}
 use Rattle.rules.specs.declared.kinds.Repeat.{Repeat}
 use Rattle.rules.specs.declared.verdict.Verdict.{Verdict}
-use Rattle.priority_laws.proofs.Order.{order-length}
+use Rattle.priority_laws.proofs.Priority.{order-length}
 use Rattle.tables.specs.Views.{viewRow, view}
 use Rattle.tables.proofs.Views.{length-view}
 use Rattle.tables.specs.declared.table.Row.{Row}

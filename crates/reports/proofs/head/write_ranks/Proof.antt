@@ -10,7 +10,7 @@ use borrow.Author.Needs.{needs}
 use Rattle.rules.specs.Runs.{orderLine}
 use Rattle.rules.specs.Tables.{size}
 use Rattle.rules.specs.Verdicts.{order}
-use Rattle.priority_laws.proofs.Order.{order-length}
+use Rattle.priority_laws.proofs.Priority.{order-length}
 use Rattle.tables.specs.Views.{view}
 use Rattle.tables.proofs.Views.{table-full}
 use Rattle.reports.proofs.Heads.{count-is, ranks-front}
