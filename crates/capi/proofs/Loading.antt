@@ -34,7 +34,7 @@ module _ (st : State) (w : T (wellFormed st)) where
   says : view (pack st) ≡ st
   says = view-pack st (kept-sized (formed-kept st w))
 
-  asked-packed : {A : Type 0} (ask : State → Answer A) → asked (pack st) ask ≡ ask st
+  pub asked-packed : {A : Type 0} (ask : State → Answer A) → asked (pack st) ask ≡ ask st
   unfolding asked
   asked-packed ask = rw (of-T (padded (pack st)) (formed-says (pack st) (struct-formed st w) .0), says)
 

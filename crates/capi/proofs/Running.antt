@@ -74,7 +74,7 @@ module _ (s : StateDeclared.State) (out : List ℕ) {a : RunAnswer} {out′ : Li
       let o : a .outcome ≡ Refused q = ap (λ x. x .answer .outcome) e in
       (l, cc, ap (λ x. x .out) e)
 
-  of-taken : (b : Answer Ran) → runEnd a out′ ≡ ended s out b → a .outcome ≡ Taken → (ran : Ran) × (b ≡ taken ran) × (a .state ≡ pack (ran .state)) × (out′ ≡ ran .out)
+  pub of-taken : (b : Answer Ran) → runEnd a out′ ≡ ended s out b → a .outcome ≡ Taken → (ran : Ran) × (b ≡ taken ran) × (a .state ≡ pack (ran .state)) × (out′ ≡ ran .out)
   of-taken (taken ran) e told = (ran, refl, ap (λ x. x .answer .state) e, ap (λ x. x .out) e)
   of-taken (refused q l) e told =
       let o : a .outcome ≡ Refused q = ap (λ x. x .answer .outcome) e in

@@ -18,13 +18,13 @@ pub length-from : (s k : ℕ) → length (from s k) ≡ k
 length-from s zero = refl
 length-from s (suc k) = ap suc (length-from (suc s) k)
 
-getD-map-from : (f : ℕ → ℕ) (s k i : ℕ) → i < k → getD (map f (from s k)) i 0 ≡ f (s + i)
-getD-map-from f s zero i h = absurd (not-suc-le-zero h)
-getD-map-from f s (suc k) zero h = rw add-zero
-getD-map-from f s (suc k) (suc i) h = getD-map-from f (suc s) k i (le-of-suc-le-suc h) ∙ ap f (suc-add s i ∙ sym (add-suc s i))
+pub getD-map-from : {A : Type 0} (d : A) (f : ℕ → A) (s k i : ℕ) → i < k → getD (map f (from s k)) i d ≡ f (s + i)
+getD-map-from d f s zero i h = absurd (not-suc-le-zero h)
+getD-map-from d f s (suc k) zero h = rw add-zero
+getD-map-from d f s (suc k) (suc i) h = getD-map-from d f (suc s) k i (le-of-suc-le-suc h) ∙ ap f (suc-add s i ∙ sym (add-suc s i))
 
 pub getD-from : (s k i : ℕ) → i < k → getD (from s k) i 0 ≡ s + i
-getD-from s k i h = ap (λ (l : List ℕ). getD l i 0) (sym (map-id (from s k))) ∙ getD-map-from (λ x. x) s k i h
+getD-from s k i h = ap (λ (l : List ℕ). getD l i 0) (sym (map-id (from s k))) ∙ getD-map-from 0 (λ x. x) s k i h
 
 -- ---- f 1 to f n
 
@@ -34,7 +34,7 @@ module _ (n : ℕ) (f : ℕ → ℕ) where
 
   pub at-each : (i : ℕ) → 1 ≤ i → i ≤ n → at (each n f) i ≡ f i
   at-each zero low high = absurd (not-suc-le-zero low)
-  at-each (suc i) low high = getD-map-from f 1 n i high ∙ ap f (omega arith)
+  at-each (suc i) low high = getD-map-from 0 f 1 n i high ∙ ap f (omega arith)
 
 -- two lists with the same entries at 1 to n are the same
 pub ext-at : (a b : List ℕ) → length a ≡ length b → ((i : ℕ) → 1 ≤ i → i ≤ length a → at a i ≡ at b i) → a ≡ b

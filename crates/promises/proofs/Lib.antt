@@ -1,1 +1,10 @@
-pub mod Promises
+pub mod Admitted
+pub mod Texts
+pub mod Structs
+pub mod Opening
+pub mod Calls
+pub mod Replies
+pub mod Judged
+pub mod Running
+pub mod Counting
+pub mod Holding

@@ -1,1 +1,7 @@
-pub mod Promises
+pub mod Admitted
+pub mod Calls
+pub mod Runs
+pub mod Frames
+pub mod Buffers
+pub mod Texts
+pub mod Structs

@@ -8,7 +8,7 @@ use native.Mathlib.Omega.{arith}
 use lib.Dec.{eqb, leb, leb→le, eqb→eq}
 use lib.ListN.{length, take, drop, replicate, length-append, take-append-drop}
 use lib.Seq.{length-take-le, take-at, drop-at}
-use borrow.Author.Tests.{le-leb, eq-eqb}
+use borrow.Author.Tests.{le-leb, eq-eqb, ne-eqb}
 use Rattle.laws.specs.Lists.{sum}
 use Rattle.laws.specs.Digits.{field, value}
 use Rattle.laws.proofs.Options.{then-some, guard-some}
@@ -109,6 +109,12 @@ module _ (sh : Shape) where
       let after : List ℕ = lineFeed ∷ rest in
       rw (frame-append vs rest, read-field 2 (sh .type) (fields (sh .widths) vs ++ after) small)
       (rw (eq-eqb (sh .type) (sh .type) refl, read-fields (sh .widths) vs after fits))
+
+  -- by the shape of another type it is not
+  pub read-other : (other : Shape) (vs rest : List ℕ) → sh .type < 256 → (sh .type ≡ other .type → ⊥) → readFrame other (frame sh vs ++ rest) ≡ none
+  unfolding readFrame
+  read-other other vs rest small differ =
+      rw (frame-append vs rest, read-field 2 (sh .type) (fields (sh .widths) vs ++ (lineFeed ∷ rest)) small) (rw (ne-eqb (sh .type) (other .type) differ))
 
   -- a frame that is read is the one that is written for what is read
   pub frame-read : (s : List ℕ) (a : Read (List ℕ)) → readFrame sh s ≡ some a → Fits (sh .widths) (a .got) × (s ≡ frame sh (a .got) ++ a .rest)

@@ -1,7 +1,7 @@
--- A run of slots: one slot more at its end, what no slot changes, and what it shows slot by slot.
+-- A run of slots: one slot more at its end or a count of them, what no slot changes, and what it shows slot by slot.
 use Prim.Native.Nat.{ℕ, zero, suc, _+_}
 use mathlib.Core.Path.{_≡_, refl, sym, ap, _∙_}
-use mathlib.Core.List.{List, _∷_, map}
+use mathlib.Core.List.{List, _∷_, _++_, map}
 use native.Mathlib.Nat.{zero-add, add-suc, suc-add}
 use Rattle.laws.specs.Lists.{from}
 use Rattle.laws.proofs.Sums.{map-from-suc}
@@ -14,6 +14,17 @@ pub after-suc : (k : ℕ) (st : State) → after (suc k) st ≡ slot (after k st
 unfolding after
 after-suc zero st = refl
 after-suc (suc k) st = after-suc k (slot st .next)
+
+-- b slots, and a count of them more
+pub after-more : (b count : ℕ) (st : State) → after count (after b st) ≡ after (b + count) st
+unfolding after
+after-more zero count st = rw zero-add
+after-more (suc b) count st = after-more b count (slot st .next) ∙ sym (ap (λ (k : ℕ). after k st) (suc-add b count))
+
+pub shows-more : (b count : ℕ) (st : State) → shows (b + count) st ≡ shows b st ++ shows count (after b st)
+unfolding after shows
+shows-more zero count st = rw zero-add
+shows-more (suc b) count st = ap (λ (k : ℕ). shows k st) (suc-add b count) ∙ ap (λ (l : List Shown). slot st .shown ∷ l) (shows-more b count (slot st .next))
 
 -- a run changes neither the table nor the order
 pub after-table : (k : ℕ) (st : State) → after k st .table ≡ st .table

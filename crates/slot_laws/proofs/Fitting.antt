@@ -23,8 +23,7 @@ use Rattle.rules.specs.Frames.{readFrame}
 use Rattle.rules.specs.Runs.{verdictNumbers, verdictLine, orderLine, slotNumbers, slotLine, totalsNumbers, totalsLine}
 use Rattle.reading_laws.specs.Frames.{Fits}
 use Rattle.reading_laws.proofs.Frames.{fits-append, fits-each, read-frame}
-use Rattle.priority_laws.proofs.Order.{order-length}
-use Rattle.priority_laws.proofs.Priority.{ranks-all, ranks-within, order-priority}
+use Rattle.priority_laws.proofs.Priority.{ranks-all, ranks-within, order-length, order-priority}
 use Rattle.slot_laws.proofs.Choosing.{choose-le}
 use Rattle.slot_laws.proofs.Placing.{slot-chosen}
 use Rattle.slot_laws.proofs.Forms.{Accepted, Kept}

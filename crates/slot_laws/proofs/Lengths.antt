@@ -27,7 +27,7 @@ pub slot-width : (st : State) → length (slot st .shown .cores) ≡ st .table .
 unfolding slot effect
 slot-width st = place-length (st .table .m) (st .last) (choose (st .table .m) (st .ranks) (release (st .table) (st .clock) (st .left)))
 
-slot-table : (st : State) → slot st .next .table ≡ st .table
+pub slot-table : (st : State) → slot st .next .table ≡ st .table
 unfolding slot effect
 slot-table st = refl
 

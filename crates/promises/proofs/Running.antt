@@ -1,0 +1,64 @@
+-- Runs one after the other: what each call leaves is where the next one goes on, and all frames together are those of the
+-- table's slots.
+use Prim.Native.Nat.{ℕ, _+_, _≤_}
+use mathlib.Core.Path.{_≡_, refl, sym, ap, ap₂, subst, _∙_}
+use mathlib.Core.List.{List, _++_, map, map-append}
+use native.Mathlib.Omega.{arith}
+use lib.Dec.{T}
+use lib.ListN.{length}
+use Rattle.rules.specs.Limits.{clockMax}
+use Rattle.rules.specs.Tables.{Table, accepts}
+use Rattle.rules.specs.States.{fresh}
+use Rattle.rules.specs.Runs.{after, shows, slotNumbers, slotLines}
+use Rattle.rules.specs.Answers.{lay}
+use Rattle.slot_laws.proofs.After.{shows-more}
+use Rattle.slot_laws.proofs.Books.{run-kept}
+use Rattle.slot_laws.proofs.Boundaries.{table-at, clock-at}
+use Rattle.promises.specs.Buffers.{framesAt, Holds}
+use Rattle.promises.specs.Frames.{Scheduled}
+use Rattle.promises.specs.Runs.{Way, Runs, none, more, framesOf, Exactly, Came}
+use Rattle.promises.proofs.Holding.{lay-held, held-frames}
+use Rattle.promises.proofs.Counting.{scheduled-counted}
+
+-- what one call does that starts at boundary b
+pub record Ran {S C : Type 0} (way : Way S C) (Says : ℕ → S → Type 0) (tbl : Table) (b : ℕ) (c : C) : Type 0 where
+  pub next : Says (b + way .slots c) (way .to c)
+  pub in-time : b + way .slots c ≤ clockMax
+  pub room : way .place c + length (slotLines (way .slots c) (after b (fresh tbl))) ≤ length (way .lent c)
+  pub lines : way .buffer c ≡ lay (way .lent c) (way .place c) (slotLines (way .slots c) (after b (fresh tbl)))
+
+module _ {S C : Type 0} {way : Way S C} {Says : ℕ → S → Type 0} (tbl : Table) (t : T (accepts tbl)) where
+  -- its frames
+  call-frames : {b : ℕ} (c : C) → Ran way Says tbl b c → framesAt (tbl .m) (way .buffer c) (way .place c) (way .slots c) ≡ map slotNumbers (shows (way .slots c) (after b (fresh tbl)))
+  call-frames {b} c r =
+      let held : Holds (way .buffer c) (way .place c) (slotLines (way .slots c) (after b (fresh tbl))) =
+      subst (λ (l : List ℕ). Holds l (way .place c) (slotLines (way .slots c) (after b (fresh tbl)))) (sym (r .lines)) (lay-held (way .lent c) (way .place c) _ (r .room))
+      in
+      ap (λ (x : Table). framesAt (x .m) (way .buffer c) (way .place c) (way .slots c)) (sym (table-at tbl b))
+      ∙ held-frames (way .slots c) (run-kept tbl t b) (omega (arith, clock-at tbl b, r .in-time)) held
+
+  module _ (step : (c : C) (b : ℕ) → Says b (way .from c) → Ran way Says tbl b c) {start : S} (begins : Says 0 start) where
+    reaches : {end : S} {b : ℕ} → Runs way start end b → Says b end
+    reaches none = begins
+    reaches (more {b = b} runs c e) = step c b (subst (Says b) (sym e) (reaches runs)) .next
+
+    -- the call after some runs
+    ran : {x : S} {b : ℕ} → Runs way start x b → (c : C) → way .from c ≡ x → Ran way Says tbl b c
+    ran {b = b} runs c e = step c b (subst (Says b) (sym e) (reaches runs))
+
+    exact : {end : S} {b : ℕ} (runs : Runs way start end b) → Exactly tbl runs
+    exact none = tt
+    exact (more runs c e) = (exact runs, ran runs c e .lines)
+
+    schedule : {end : S} {b : ℕ} (runs : Runs way start end b) → framesOf (tbl .m) runs ≡ map slotNumbers (shows b (fresh tbl))
+    unfolding framesOf shows
+    schedule none = refl
+    schedule (more {b = b} runs c e) =
+        ap₂ (λ (x y : List (List ℕ)). x ++ y) (schedule runs) (call-frames c (ran runs c e))
+        ∙ sym (map-append slotNumbers (shows b (fresh tbl)) (shows (way .slots c) (after b (fresh tbl))))
+        ∙ ap (map slotNumbers) (sym (shows-more b (way .slots c) (fresh tbl)))
+
+    pub came : {end : S} {b : ℕ} (runs : Runs way start end b) → Came Says tbl runs
+    came runs =
+        let s : Scheduled tbl _ (framesOf (tbl .m) runs) = record { are = schedule runs } in
+        record { reached = reaches runs; exactly = exact runs; scheduled = s; counted = scheduled-counted s }
