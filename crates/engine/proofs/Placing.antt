@@ -8,7 +8,8 @@ use lib.Dec.{eqb}
 use lib.ListN.{length, getD, take, drop, replicate, length-replicate, length-take}
 use Rattle.laws.specs.Lists.{filter, position}
 use Rattle.laws.proofs.Filling.{front-taken, front-fits, at-pred}
-use Rattle.laws.proofs.Positions.{StandsAt, position-stands, entry-counted, count-filter-le}
+use Rattle.laws.proofs.Positions.{StandsAt, position-stands, count-filter-le}
+use Rattle.laws.proofs.Sorted.{stands-getD}
 use Rattle.rules.specs.Slots.{place, keepCores, placed}
 use Rattle.slot_laws.proofs.Choosing.{Choice}
 use Rattle.slot_laws.proofs.Placing.{keep-length, others-room, kept-or-other}
@@ -27,7 +28,7 @@ named-part q {n} {l} h =
     stands : (P : ℕ → Type 0) → ((j : ℕ) → j < length l → P (getD l j 0)) → (j : ℕ) → j < length (filter q l) → P (getD (filter q l) j 0)
     stands P all j more =
         let x : ℕ = getD (filter q l) j 0 in
-        let s : StandsAt x l (position x l) = position-stands x l (omega (arith, entry-counted (filter q l) j more, count-filter-le q (eqb x) l)) in
+        let s : StandsAt x l (position x l) = position-stands x l (omega (arith, stands-getD (filter q l) j more, count-filter-le q (eqb x) l)) in
         subst P (sym (at-pred l (position x l) (s .low)) ∙ s .here) (all (position x l - 1) (omega (arith, s .low, s .high)))
 
 module _ {chosen last cores : List ℕ} (p : Placing chosen last cores) (idle : Idle cores) where

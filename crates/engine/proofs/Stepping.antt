@@ -13,7 +13,8 @@ use lib.Seq.{take-append-le}
 use Rattle.laws.specs.Lists.{count, numbers, each, at, position}
 use Rattle.laws.proofs.Each.{length-each, at-each, each-cong}
 use Rattle.laws.proofs.Filling.{at-pred}
-use Rattle.laws.proofs.Positions.{StandsAt, position-stands, entry-counted}
+use Rattle.laws.proofs.Positions.{StandsAt, position-stands}
+use Rattle.laws.proofs.Sorted.{stands-getD}
 use Rattle.rules.specs.Slots.{choose, given, placed, moved}
 use Rattle.slot_laws.proofs.Choosing.{Choice, Ranking, choose-choice, choose-pending}
 use Rattle.slot_laws.proofs.Placing.{place-holds}
@@ -62,8 +63,8 @@ module _ {m : ℕ} {c t ranks phase left last done dropped : List ℕ} (r : Read
   named-chosen =
       rw (r .last-size)
       (record {
-        from = λ j h. chosen-within (getD chosen j 0) (entry-counted chosen j h) .0;
-        to = λ j h. chosen-within (getD chosen j 0) (entry-counted chosen j h) .1;
+        from = λ j h. chosen-within (getD chosen j 0) (stands-getD chosen j h) .0;
+        to = λ j h. chosen-within (getD chosen j 0) (stands-getD chosen j h) .1;
       })
 
   -- the cores hold no task twice

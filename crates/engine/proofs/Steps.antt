@@ -12,8 +12,7 @@ use Rattle.laws.specs.Lists.{count, numbers, each, at, position}
 use Rattle.laws.proofs.Each.{length-each, at-each, each-at, each-cong, count-cong}
 use Rattle.laws.proofs.Tests.{decide}
 use Rattle.laws.proofs.Periods.{mod-next}
-use Rattle.laws.proofs.Positions.{entry-counted}
-use Rattle.laws.proofs.Sorted.{stands-from}
+use Rattle.laws.proofs.Sorted.{stands-from, stands-getD}
 use Rattle.laws.proofs.Entries.{count-numbers-le}
 use Rattle.priority_laws.proofs.Order.{order-count}
 use Rattle.rules.specs.Limits.{clockMax}
@@ -80,7 +79,7 @@ module _ (tbl : Table) where
       }
     where
       ranked : (j : ℕ) → j < length (order tbl) → 0 < count (eqb (getD (order tbl) j 0)) (numbers (size tbl))
-      ranked j h = omega (arith, order-count tbl (eqb (getD (order tbl) j 0)), entry-counted (order tbl) j h)
+      ranked j h = omega (arith, order-count tbl (eqb (getD (order tbl) j 0)), stands-getD (order tbl) j h)
 
 -- ---- a well formed state
 

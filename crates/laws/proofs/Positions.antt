@@ -141,10 +141,6 @@ stands-count x (y ∷ ys) {k = suc zero} s = omega (arith, hit-same (sym (s .her
 stands-count x (y ∷ ys) {k = suc (suc k)} s = omega (arith, stands-count x ys (stands-rest s))
 
 -- the first position is no later than any other
--- an entry is counted
-pub entry-counted : (l : List ℕ) (j : ℕ) → j < length l → 1 ≤ count (eqb (getD l j 0)) l
-entry-counted l j h = stands-count (getD l j 0) l {k = suc j} (record { low = omega arith; high = h; here = refl })
-
 pub position-le : (x : ℕ) (l : List ℕ) {k : ℕ} → StandsAt x l k → position x l ≤ k
 position-le x [] s = zero-le
 position-le x (y ∷ ys) {k = zero} s = omega arith

@@ -42,7 +42,7 @@ module _ {tbl : Table} {start end : List ℕ} {b : ℕ} (o : Opening tbl start) 
   account =
       record {
         came = calls-came;
-        totals = λ t. totals-told taken (calls-came .reached) t ∙ scheduled-totals (calls-came .scheduled) taken;
+        totals = λ t. totals-told taken (calls-came .reached) t ∙ scheduled-totals (calls-came .scheduled);
         lead =
             λ i l.
             let w = lead-told taken (calls-came .reached) i l in

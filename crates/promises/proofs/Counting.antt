@@ -1,15 +1,15 @@
 -- The frames of a table's first slots: the placings that they show are those of its run, so what is counted from them are its
 -- counts, and demand 3 holds of them.
-use Prim.Native.Nat.{ℕ, suc, _+_, _<_}
+use Prim.Native.Nat.{ℕ, suc, _+_, _≤_, _<_}
 use mathlib.Core.Path.{_≡_, sym, ap, _∙_}
 use mathlib.Core.List.{List, [], _∷_, map, map-map, append-nil}
 use native.Mathlib.Nat.{le-refl, zero-add}
 use native.Mathlib.Omega.{arith}
 use lib.Dec.{T}
 use lib.ListN.{length, take, getD}
-use lib.Seq.{take-at, getD-append-add}
+use lib.Seq.{take-at, getD-take, getD-append-add}
 use Rattle.laws.specs.Lists.{sum, from, each, at}
-use Rattle.laws.proofs.Each.{getD-map-from, each-at, each-cong}
+use Rattle.laws.proofs.Each.{getD-map-from, each-cong}
 use Rattle.laws.proofs.Entries.{sum-replicate}
 use Rattle.rules.specs.Tables.{Table, size, accepts}
 use Rattle.rules.specs.Verdicts.{admitted, lights}
@@ -18,11 +18,11 @@ use Rattle.rules.specs.Slots.{Shown, slot}
 use Rattle.rules.specs.Runs.{after, slotNumbers, totalsNumbers}
 use Rattle.rules.specs.Counts.{coresIn, droppedBy}
 use Rattle.slot_laws.proofs.After.{shows-each}
-use Rattle.slot_laws.proofs.Boundaries.{table-at, cores-length}
-use Rattle.slot_laws.proofs.Books.{run-kept}
+use Rattle.slot_laws.proofs.Boundaries.{cores-length}
 use Rattle.slot_laws.proofs.WorkCounts.{done-counted}
 use Rattle.slot_laws.proofs.MoveCounts.{moves-shown, moves-counted}
 use Rattle.slot_laws.proofs.MissCounts.{misses-shown, misses-counted, dropped-counted}
+use Rattle.slot_laws.proofs.Counts.{dropped-total}
 use Rattle.slot_laws.proofs.SameSlots.{work-same, work-all-same, moved-same, moves-same, missed-same, misses-same, dropped-same}
 use Rattle.bound.specs.Demand3.{Demand3}
 use Rattle.bound.proofs.Demand3.{demand-3}
@@ -92,12 +92,11 @@ module _ {tbl : Table} {b : ℕ} {frames : List (List ℕ)} (shown : Scheduled t
       }
 
   -- the totals
-  pub scheduled-totals : T (accepts tbl) → totalsNumbers (after b (fresh tbl)) ≡ totalsOf tbl b frames
-  scheduled-totals t =
+  pub scheduled-totals : totalsNumbers (after b (fresh tbl)) ≡ totalsOf tbl b frames
+  scheduled-totals =
       let c : Counted tbl b frames (after b (fresh tbl)) = scheduled-counted in
-      let long : length (after b (fresh tbl) .dropped) ≡ size tbl = run-kept tbl t b .dropped-length ∙ ap size (table-at tbl b) in
       let dropped : sum (after b (fresh tbl) .dropped) ≡ sum (each (size tbl) (λ i. droppedBy tbl read i b)) =
-      ap sum (sym (each-at (size tbl) (after b (fresh tbl) .dropped) long) ∙ each-cong (size tbl) _ _ (c .dropped))
+      dropped-total tbl b ∙ ap sum (each-cong (size tbl) _ _ (λ i low high. sym (dropped-same read (coresIn tbl) b cores-shown tbl i b (le-refl b))))
       in
       cc
 
@@ -106,3 +105,18 @@ module _ {tbl : Table} {b : ℕ} {frames : List (List ℕ)} (shown : Scheduled t
       let d : Demand3 tbl b = demand-3 tbl t a b in
       let dropped : sum (after b (fresh tbl) .dropped) ≡ 0 = ap sum (d .no-drop) ∙ rw append-nil at (sum-replicate (size tbl) 0 []) ∙ omega arith in
       cc (scheduled-counted .moves)
+
+-- the first of some frames say no less than all of them: what holds at a boundary held at every one before it
+module _ {tbl : Table} {b : ℕ} {frames : List (List ℕ)} (w : OnTime tbl b frames) (u : ℕ) (h : u ≤ b) where
+  first-frame : (s : ℕ) → s < u → frameOf (take u frames) s ≡ frameOf frames s
+  first-frame s l = getD-take u frames s [] l
+
+  pub first-on-time : OnTime tbl u (take u frames)
+  first-on-time =
+      record {
+        none-missed = λ s l. ap (missesOf (tbl .m)) (first-frame s l) ∙ w .none-missed s (omega arith);
+        lights-ahead =
+            λ v k l.
+            rw (work-all-same (placing (tbl .m) (take u frames)) (placing (tbl .m) frames) u (λ s i. ap (coresOf (tbl .m)) (first-frame s i)) (take k (lights tbl)) v (omega arith))
+            (w .lights-ahead v k (omega arith));
+      }

@@ -1,3 +1,4 @@
+pub mod Cases
 pub mod Admitted
 pub mod Texts
 pub mod Structs

@@ -42,6 +42,7 @@ use Rattle.runs.specs.Slots.{frameLength}
 use Rattle.runs.specs.Answers.{RunEnd, runAnswer}
 use Rattle.runs.specs.declared.run.RunOutcome.the-variants.{Taken}
 use Rattle.runs.proofs.run.run.Reads as run-of
+use Rattle.runs.proofs.run.step.Reads as step-of
 use Rattle.reports.proofs.Taking as Taking
 use Rattle.capi.proofs.Opening.{file-takes, list-takes, takes-startable}
 use Rattle.capi.proofs.Loading.{asked-packed}
@@ -114,6 +115,17 @@ module _ {tbl : Rules.Table} (t : T (accepts tbl)) (r : Call run-of.Post) {b : �
 
 run-step : {tbl : Rules.Table} → T (accepts tbl) → (c : RunTaken) (b : ℕ) → Reached tbl b (structs .from c) → Running.Ran structs (Reached tbl) tbl b c
 run-step t c b g = run-leaves t (c .0) g (c .1)
+
+-- a step is a run of one slot: what is said of runs holds of steps among them
+pub step-as-run : Call step-of.Post → Call run-of.Post
+step-as-run c =
+    record {
+      lifetimes = c .lifetimes;
+      args = (c .args .0, (1, c .args .1));
+      result = c .result;
+      exits = (c .exits .0, (1, c .exits .1));
+      permitted = c .permitted;
+    }
 
 -- ---- from what `fresh` returned
 

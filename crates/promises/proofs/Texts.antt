@@ -96,7 +96,7 @@ module _ (tbl : Table) (t : T (accepts tbl)) {out : List ℕ} {place : ℕ} (h :
             (held-next (verdictLine tbl) (orderLine (order tbl)) 15 (length-verdictLine tbl) (held-first (head tbl) slots before-totals));
         scheduled = frames-read;
         counted = scheduled-counted frames-read;
-        totals = totals-told ∙ scheduled-totals frames-read t;
+        totals = totals-told ∙ scheduled-totals frames-read;
       }
 
   pub text-promise : T (admitted tbl) → TextPromise tbl out place
@@ -138,13 +138,14 @@ module _ (input : List ℕ) {out : List ℕ} {place : ℕ} (h : Holds out place 
 
   -- one whose text begins with a frame `11` that says 01
   says-means : (a : Answer Table) → readFile file ≡ a → at (numbersAt Frames.verdict out place) 1 ≡ 1 → TextMeans input out place
-  unfolding reply
+  unfolding reply program
   says-means (taken tbl) e says =
       let t : T (accepts tbl) = written-read file tbl e .1 in
       let text : Holds out place (report tbl) = by-answer (taken tbl) e in
       record {
         tbl = tbl;
         read = e;
+        text = ap reply e;
         promise = text-promise tbl t text (says-admitted tbl (sym (ap (λ (l : List ℕ). at l 1) (text-account tbl t text .verdict)) ∙ says));
       }
   says-means (refused q l) e says = absurd (omega (arith, says, ap (λ (v : List ℕ). at v 1) (refused-read (numberOf q ∷ l ∷ []) (by-answer (refused q l) e))))

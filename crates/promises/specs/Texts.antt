@@ -12,6 +12,7 @@ use Rattle.rules.specs.Files.{readFile}
 use Rattle.rules.specs.Verdicts.{order}
 use Rattle.rules.specs.States.{fresh}
 use Rattle.rules.specs.Runs.{after, verdictNumbers}
+use Rattle.rules.specs.Program.{report, program}
 use Rattle.tables.specs.declared.write.WriteAnswer.the-variants.{Written}
 use Rattle.runs.specs.Slots.{frameLength}
 use Rattle.reports.specs.Heads.{headLength}
@@ -61,4 +62,6 @@ pub record TextPromise (tbl : Table) (out : List ℕ) (place : ℕ) : Type 0 whe
 pub record TextMeans (input out : List ℕ) (place : ℕ) : Type 0 where
   pub tbl : Table
   pub read : readFile (take inputMax input) ≡ taken tbl
+  -- frames `11` and `12`, the frames `13` and frame `14` are all of it
+  pub text : program input ≡ report tbl
   pub promise : TextPromise tbl out place

@@ -24,14 +24,14 @@ use Rattle.rules.specs.Runs.{after, shows, lead, verdictLine, orderLine,
 use Rattle.rules.specs.Forms.{sized, taskFormed, wellFormed}
 use Rattle.rules.specs.Program.{report, reply, program}
 
-abbrev row : ℕ → ℕ → Row
+abbrev pub row : ℕ → ℕ → Row
 row c t = record { c = c; t = t }
 
-abbrev table : ℕ → List Row → Table
+abbrev pub table : ℕ → List Row → Table
 table m rows = record { m = m; rows = rows }
 
 -- the bytes of a text
-abbrev bytes : String → List ℕ
+abbrev pub bytes : String → List ℕ
 bytes Str.[] = []
 bytes (Str._∷_ c s) = code c ∷ bytes s
 
@@ -41,7 +41,7 @@ pub record Case : Type 0 where
   pub computed : List ℕ
   pub expected : List ℕ
 
-abbrev case : String → List ℕ → List ℕ → Case
+abbrev pub case : String → List ℕ → List ℕ → Case
 case name computed expected = record { name = name; computed = computed; expected = expected }
 
 -- the first case whose numbers differ
@@ -99,7 +99,7 @@ tableE = table 3 (row 3 7 ∷ row 3 7 ∷ row 4 7 ∷ [])
 abbrev tableF : Table
 tableF = table 3 (row 1 10 ∷ row 1 10 ∷ row 1 10 ∷ row 10 11 ∷ [])
 
-abbrev tableH : Table
+abbrev pub tableH : Table
 tableH = table 2 (row 2 3 ∷ row 2 3 ∷ row 2 3 ∷ [])
 
 abbrev rowsI : List Row
@@ -108,7 +108,7 @@ rowsI = row 1 31_622 ∷ row 1 31_623 ∷ []
 abbrev rowsJ : List Row
 rowsJ = row 1 31_623 ∷ row 1 31_624 ∷ []
 
-abbrev tableM : Table
+abbrev pub tableM : Table
 tableM = table 2 (row 1 2 ∷ row 1 3 ∷ row 3 6 ∷ [])
 
 -- a state of three tasks
@@ -132,7 +132,7 @@ three a b c = a ∷ b ∷ c ∷ []
 abbrev inputM : String
 inputM = "010203\n0200010002\n0200010003\n0200030006\n"
 
-abbrev outputM : String
+abbrev pub outputM : String
 outputM = "11000000000006\n12010203\n130000000001020000\n130000000103000000\n130000000201030100\n130000000303020100\n130000000401000000\n130000000500000000\n14000000000000000200000000000000000000000000000000\n"
 
 -- Those that take many steps to compute stand last: of a list that fails, the prover shows the case only if it gets there

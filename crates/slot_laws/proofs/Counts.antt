@@ -1,20 +1,21 @@
 -- What the slots of a table's run show, and the total of its dropped units, read off the placings alone.
-use Prim.Native.Nat.{ℕ, zero, suc}
+use Prim.Native.Nat.{ℕ, suc}
 use mathlib.Core.Path.{_≡_, sym, ap, _∙_}
 use mathlib.Core.Bool.{_&&_}
 use mathlib.Core.List.{map}
 use lib.Dec.{ltb}
-use lib.ListN.{length, length-replicate}
 use Rattle.laws.specs.Lists.{count, sum, from, numbers, each}
-use Rattle.laws.proofs.Each.{length-each, each-at, each-cong}
+use Rattle.laws.proofs.Each.{each-at, each-cong}
 use Rattle.rules.specs.Rows.{due}
 use Rattle.rules.specs.Tables.{Table, size, rowOf}
+use Rattle.rules.specs.Verdicts.{order}
 use Rattle.rules.specs.States.{fresh}
-use Rattle.rules.specs.Slots.{Shown, slot, effect}
+use Rattle.rules.specs.Slots.{Shown, slot}
 use Rattle.rules.specs.Runs.{after, shows}
 use Rattle.rules.specs.Counts.{coresIn, movedTo, shortAt, droppedBy}
-use Rattle.slot_laws.proofs.After.{after-suc, shows-each}
-use Rattle.slot_laws.proofs.Boundaries.{table-at, shown-slot}
+use Rattle.slot_laws.proofs.After.{shows-each}
+use Rattle.slot_laws.proofs.Given.{own-run, dropped-length-with}
+use Rattle.slot_laws.proofs.Boundaries.{shown-slot}
 use Rattle.slot_laws.proofs.MoveCounts.{moves-shown}
 use Rattle.slot_laws.proofs.MissCounts.{dropped-counted, misses-shown}
 
@@ -38,13 +39,8 @@ pub shows-counted : (tbl : Table) (b : ℕ) → shows b (fresh tbl) ≡ map (sho
 shows-counted tbl b = shows-each b (fresh tbl) ∙ simp (shown-counted tbl)
 
 -- the total of the dropped units
-dropped-length : (tbl : Table) (b : ℕ) → length (after b (fresh tbl) .dropped) ≡ size tbl
-unfolding after fresh slot effect
-dropped-length tbl zero = length-replicate (size tbl) 0
-dropped-length tbl (suc b) = rw (after-suc b (fresh tbl), table-at tbl b) (length-each (size tbl) _)
-
 pub dropped-total : (tbl : Table) (b : ℕ) → sum (after b (fresh tbl) .dropped) ≡ sum (each (size tbl) (λ i. droppedBy tbl (coresIn tbl) i b))
 dropped-total tbl b =
     ap sum
-    (sym (each-at (size tbl) (after b (fresh tbl) .dropped) (dropped-length tbl b))
+    (sym (each-at (size tbl) (after b (fresh tbl) .dropped) (rw (own-run tbl b) (dropped-length-with tbl (order tbl) (coresIn tbl) b)))
     ∙ each-cong (size tbl) _ _ (λ i low high. dropped-counted tbl i low high b))
