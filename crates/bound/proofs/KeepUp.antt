@@ -19,9 +19,10 @@ use Rattle.rules.specs.Obeys.{Priority, Rightly, lightsOf}
 use Rattle.priority_laws.proofs.Priority.{light-at}
 use Rattle.slot_laws.proofs.Forms.{Accepted}
 use Rattle.slot_laws.proofs.WorkCounts.{work-of-all}
+use Rattle.bound.specs.Setting.{WithinLimit}
 use Rattle.bound.proofs.Theorem.{always-ahead}
 use Rattle.bound.proofs.Prefixes.{sum-of-first}
-use Rattle.bound.proofs.Ranked.{WithinLimit, ranked, table-conditions}
+use Rattle.bound.proofs.Ranked.{ranked, table-conditions}
 use Rattle.bound.proofs.Scheduled.{scheduled}
 
 -- the shares of some tasks together

@@ -19,7 +19,7 @@ use Rattle.priority_laws.proofs.Priority.{ranks-sum, ranks-length, ranks-all, h
 use Rattle.priority_laws.proofs.Repeat.{Periodic, repeat-pos, repeat-share}
 use Rattle.reading_laws.specs.Bounds.{RowInBounds}
 use Rattle.slot_laws.proofs.Forms.{Accepted}
-use Rattle.bound.specs.Setting.{Tasks, Conditions, tasks, lightAt}
+use Rattle.bound.specs.Setting.{Tasks, Conditions, tasks, lightAt, WithinLimit}
 use Rattle.bound.proofs.Shares.{Admitted, general-conditions}
 use Rattle.bound.proofs.Prefixes.{sum-of-first}
 
@@ -30,10 +30,6 @@ shareAt tbl ranks k = share (repeatLength (tbl .rows)) (rowOf tbl (getD ranks k 
 -- no period is 0
 pub accepted-periods : (tbl : Table) → Accepted tbl → Periodic tbl
 accepted-periods tbl a i low high = le-trans (a .row i low high .works) (a .row i low high .fits)
-
--- the shares sum to at most m times the fraction: what admission says, as an inequality
-abbrev pub WithinLimit : Table → Type 0
-WithinLimit tbl = fraction (tbl .m) .den * scaledSum tbl ≤ tbl .m * fraction (tbl .m) .num * repeatLength (tbl .rows)
 
 -- the table's tasks, in an order by priority
 unfoldable pub ranked : (tbl : Table) → Accepted tbl → (ranks : List ℕ) → Priority tbl ranks → Tasks
