@@ -13,8 +13,8 @@ use Rattle.rules.specs.Counts.{workOf}
 use Rattle.slot_laws.proofs.Boundaries.{table-at, clock-at}
 use Rattle.promises.specs.Buffers.{placing}
 use Rattle.promises.specs.Runs.{Runs, framesOf, Came}
-use Rattle.promises.specs.Calls.{Opening, Held, calls}
-use Rattle.promises.specs.Admitted.{Admitted, Promise, Account}
+use Rattle.promises.specs.Calls.{Opening, Held, calls, VerdictCall}
+use Rattle.promises.specs.Admitted.{Admitted, Promise, Judged, Account}
 use Rattle.promises.proofs.Judged.{says-admitted}
 use Rattle.promises.proofs.Counting.{scheduled-on-time, scheduled-totals, scheduled-lossless}
 use Rattle.promises.proofs.Running.{came}
@@ -22,6 +22,9 @@ use Rattle.promises.proofs.Opening.{opening-accepted, opening-held}
 use Rattle.promises.proofs.Calls.{run-step, verdict-told, totals-told, lead-told}
 
 -- ---- every table that is opened
+
+pub verdict-tells : {tbl : Table} {start : List ℕ} → Opening tbl start → (v : VerdictCall start) → Judged tbl v
+verdict-tells o v = verdict-told (opening-accepted o) (opening-held o) v
 
 module _ {tbl : Table} {start end : List ℕ} {b : ℕ} (o : Opening tbl start) (runs : Runs calls start end b) where
   taken : T (accepts tbl)
@@ -56,7 +59,7 @@ admitted-means {tbl} a runs =
     let o : Opening tbl _ = a .opening in
     let t : T (accepts tbl) = opening-accepted o in
     let w : Came (Held tbl) tbl runs = account o runs .came in
-    let u : T (admitted tbl) = says-admitted tbl (sym (ap (λ (l : List ℕ). at l 1) (verdict-told t (opening-held o) (a .verdict))) ∙ a .says) in
+    let u : T (admitted tbl) = says-admitted tbl (sym (ap (λ (l : List ℕ). at l 1) (verdict-tells o (a .verdict) .verdict)) ∙ a .says) in
     record {
       accepted = t;
       admitted = u;

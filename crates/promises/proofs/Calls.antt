@@ -20,31 +20,30 @@ use Rattle.rules.specs.Answers.{Ran, runSlots, writeTotals, askLead}
 use Rattle.rules.specs.declared.refusal.Refusal.the-variants.{BadTasks}
 use Rattle.reading_laws.proofs.Tests.{settle-passes, settle-taken, number-iff}
 use Rattle.slot_laws.proofs.Forms.{accepted}
-use Rattle.slot_laws.proofs.After.{after-more}
-use Rattle.slot_laws.proofs.Books.{fresh-formed, after-formed, run-kept}
+use Rattle.slot_laws.proofs.Books.{run-kept, run-formed}
 use Rattle.slot_laws.proofs.Boundaries.{table-at, clock-at}
 use Rattle.slot_laws.proofs.Lengths.{length-slotLines, length-totalsLine}
-use Rattle.slot_laws.proofs.Fitting.{verdict-read, totals-read}
+use Rattle.slot_laws.proofs.Fitting.{verdict-read, order-read, totals-read}
 use Rattle.runs.specs.Slots.{frameLength}
 use Rattle.stored.specs.Layout.{store, load}
 use Rattle.stored.proofs.Round.{stored-loads}
 use Rattle.reports.specs.Heads.{head, headLength}
-use Rattle.reports.proofs.Heads.{length-head}
+use Rattle.reports.proofs.Heads.{length-verdictLine, length-head}
 use Rattle.capi.specs.Calls.{sized, laid, Run, run, runStored, giveVerdict, giveTotals, giveLead}
 use Rattle.capi.proofs.verdict.zq_verdict.Reads as zq-verdict
 use Rattle.capi.proofs.state.zq_run.Reads as zq-run
 use Rattle.capi.proofs.state.zq_totals.Reads as zq-totals
 use Rattle.capi.proofs.state.zq_lead.Reads as zq-lead
 use Rattle.promises.specs.Buffers.{Holds}
-use Rattle.promises.specs.Calls.{Call, Held, RunCall, calls, TimeAndRoom, VerdictCall, verdictRead, TotalsCall, totalsRead, LeadCall, leadRead}
-use Rattle.promises.proofs.Holding.{held-first, held-numbers}
-use Rattle.promises.proofs.Replies.{zero-taken, taken-zero, laid-taken, laid-holds, well-first, totals-laid, run-taken, taken-ran}
+use Rattle.promises.specs.Calls.{Call, Held, RunCall, calls, TimeAndRoom, VerdictCall, TotalsCall, totalsRead, LeadCall, leadRead}
+use Rattle.promises.specs.Admitted.{Judged}
+use Rattle.promises.proofs.Holding.{held-first, held-next, held-numbers}
+use Rattle.promises.proofs.Replies.{zero-taken, taken-zero, laid-taken, laid-holds, well-first, totals-laid, run-taken}
 use Rattle.promises.proofs.Running as Running
 
 module _ {tbl : Table} (t : T (accepts tbl)) {b : ℕ} {bytes : List ℕ} (g : Held tbl b bytes) where
   formed : T (wellFormed (after b (fresh tbl)))
-  unfolding fresh
-  formed = after-formed b (fresh tbl) (fresh-formed tbl t) (omega (arith, g .in-time))
+  formed = run-formed tbl t b (g .in-time)
 
   -- what is asked of the bytes is asked of the state
   asked-of : {A : Type 0} (ask : State → Answer A) → andThen (load bytes) ask ≡ ask (after b (fresh tbl))
@@ -82,17 +81,8 @@ module _ {tbl : Table} (t : T (accepts tbl)) (r : Call zq-run.Post) {b : ℕ} (g
   run-leaves : (zero : r .result ≡ 0) → Running.Ran calls (Held tbl) tbl b (r, zero)
   run-leaves zero =
       let w = was-ran (runSlots from count out place) (sym run-answer ∙ zero-taken _ (runStored (now (r .args .0)) count out place) (r .permitted) zero) in
-      let f = taken-ran from (formed t g) count out place (w .1) in
-      record {
-        next =
-            record {
-              in-time = omega (arith, f .0, clock-at tbl b);
-              says = sym (ap (λ (x : Run). x .state) (w .2)) ∙ ap (λ (x : Ran). store (x .state)) (f .2) ∙ ap store (after-more b count (fresh tbl));
-            };
-        in-time = omega (arith, f .0, clock-at tbl b);
-        room = f .1;
-        lines = sym (ap (λ (x : Run). x .frames .buffer) (w .2)) ∙ ap (λ (x : Ran). x .out) (f .2);
-      }
+      Running.by-rules tbl t (r, zero) b (formed t g) (w .1) (sym (ap (λ (x : Run). x .frames .buffer) (w .2))) (λ soon e.
+      record { in-time = soon; says = sym (ap (λ (x : Run). x .state) (w .2)) ∙ ap store e })
 
 -- a run with time and room returns 0
 pub run-returns : {tbl : Table} → T (accepts tbl) → (r : Call zq-run.Post) {b : ℕ} → TimeAndRoom tbl b r → r .result ≡ 0
@@ -130,11 +120,16 @@ module _ {tbl : Table} (t : T (accepts tbl)) (v : Call zq-verdict.Post) {b : ℕ
   verdict-holds zero =
       laid-holds verdict-out verdict-place (head tbl) (sym verdict-answer ∙ zero-taken _ (giveVerdict (now (v .args .0)) verdict-out verdict-place) (v .permitted) zero)
 
--- frame `11` is read as the verdict of the table
-pub verdict-told : {tbl : Table} → T (accepts tbl) → {b : ℕ} {bytes : List ℕ} → Held tbl b bytes → (v : VerdictCall bytes) → verdictRead v ≡ verdictNumbers tbl
+-- frames `11` and `12` are read as the verdict and the order of the table
+pub verdict-told : {tbl : Table} → T (accepts tbl) → {b : ℕ} {bytes : List ℕ} → Held tbl b bytes → (v : VerdictCall bytes) → Judged tbl v
 verdict-told {tbl} t {b} g v =
-    held-numbers Frames.verdict (verdictLine tbl) (verdictNumbers tbl) (verdict-read (accepted tbl t))
-    (held-first (verdictLine tbl) (orderLine (order tbl)) (verdict-holds t (v .0) (subst (Held tbl b) (sym (v .2)) g) (v .1)))
+    let h : Holds _ _ (head tbl) = verdict-holds t (v .0) (subst (Held tbl b) (sym (v .2)) g) (v .1) in
+    record {
+      verdict = held-numbers Frames.verdict (verdictLine tbl) (verdictNumbers tbl) (verdict-read (accepted tbl t)) (held-first (verdictLine tbl) (orderLine (order tbl)) h);
+      priorities =
+          held-numbers (Frames.order (size tbl)) (orderLine (order tbl)) (order tbl) (order-read (accepted tbl t))
+          (held-next (verdictLine tbl) (orderLine (order tbl)) 15 (length-verdictLine tbl) h);
+    }
 
 -- ---- `zq_totals`
 

@@ -22,8 +22,7 @@ use Rattle.rules.specs.Answers.{Ran, runSlots}
 use Rattle.rules.specs.declared.refusal.Refusal.{Refusal}
 use Rattle.reading_laws.proofs.Tests.{accepts-iff}
 use Rattle.slot_laws.proofs.Forms.{accepted}
-use Rattle.slot_laws.proofs.After.{after-more}
-use Rattle.slot_laws.proofs.Books.{fresh-formed, after-formed}
+use Rattle.slot_laws.proofs.Books.{run-formed}
 use Rattle.slot_laws.proofs.Boundaries.{table-at, clock-at}
 use Rattle.bound.specs.Demand3.{Demand3}
 use Rattle.bound.proofs.Demand3.{demand-3}
@@ -52,7 +51,6 @@ use Rattle.promises.specs.Calls.{Call}
 use Rattle.promises.specs.Structs.{Taking, by-file, by-list, AdmittedStruct, Reached, RunTaken, structs, Lossless, StructPromise}
 use Rattle.promises.proofs.Judged.{says-admitted}
 use Rattle.promises.proofs.Counting.{scheduled-on-time}
-use Rattle.promises.proofs.Replies.{taken-ran}
 use Rattle.promises.proofs.Running as Running
 use Rattle.promises.proofs.Running.{came}
 
@@ -82,8 +80,7 @@ module _ {tbl : Rules.Table} (t : T (accepts tbl)) (r : Call run-of.Post) {b : �
   from = after b (fresh tbl)
 
   formed : T (wellFormed from)
-  unfolding fresh
-  formed = after-formed b (fresh tbl) (fresh-formed tbl t) (omega (arith, g .in-time))
+  formed = run-formed tbl t b (g .in-time)
 
   -- a run with time and room is taken
   pub run-is-taken : b + count ≤ clockMax → place + count * frameLength (tbl .m) ≤ length out → r .result .outcome ≡ Taken
@@ -101,17 +98,7 @@ module _ {tbl : Rules.Table} (t : T (accepts tbl)) (r : Call run-of.Post) {b : �
       let ask : States.State → Answer Ran = λ st. runSlots st count out place in
       let w = of-taken (r .args .0) out (asked (r .args .0) ask) (r .permitted) told in
       let e : ask from ≡ taken (w .0) = sym (asked-packed from formed ask) ∙ ap (λ (s : State). asked s ask) (sym (g .says)) ∙ w .1 in
-      let f = taken-ran from formed count out place e in
-      record {
-        next =
-            record {
-              in-time = omega (arith, f .0, clock-at tbl b);
-              says = w .2 ∙ ap (λ (x : Ran). pack (x .state)) (f .2) ∙ ap pack (after-more b count (fresh tbl));
-            };
-        in-time = omega (arith, f .0, clock-at tbl b);
-        room = f .1;
-        lines = w .3 ∙ ap (λ (x : Ran). x .out) (f .2);
-      }
+      Running.by-rules tbl t (r, told) b formed e (w .3) (λ soon f. record { in-time = soon; says = w .2 ∙ ap pack f })
 
 run-step : {tbl : Rules.Table} → T (accepts tbl) → (c : RunTaken) (b : ℕ) → Reached tbl b (structs .from c) → Running.Ran structs (Reached tbl) tbl b c
 run-step t c b g = run-leaves t (c .0) g (c .1)
@@ -173,4 +160,4 @@ struct-means {t} a f e runs =
     let ok : T (accepts (Tables.view t)) = taking-accepted (a .taking) in
     let u : T (admitted (Tables.view t)) = judged-admitted a in
     let w : Came (Reached (Tables.view t)) (Tables.view t) runs = struct-came (a .taking) f e runs in
-    record { came = w; on-time = scheduled-on-time (w .scheduled) ok u; lossless = lossless ok u (w .reached) }
+    record { accepted = ok; admitted = u; came = w; on-time = scheduled-on-time (w .scheduled) ok u; lossless = lossless ok u (w .reached) }

@@ -102,6 +102,8 @@ module _ (tbl : Table) (t : T (accepts tbl)) {out : List ℕ} {place : ℕ} (h :
   pub text-promise : T (admitted tbl) → TextPromise tbl out place
   text-promise u =
       record {
+        accepted = t;
+        admitted = u;
         account = text-account;
         on-time = scheduled-on-time frames-read t u;
         lossless = totals-told ∙ scheduled-lossless frames-read t u;

@@ -5,13 +5,14 @@ use mathlib.Core.List.{List}
 use lib.Dec.{T}
 use lib.IntN.{pos, _-ℤ_}
 use Rattle.laws.specs.Lists.{at}
-use Rattle.rules.specs.Tables.{Table, rowOf, accepts}
-use Rattle.rules.specs.Verdicts.{admitted}
+use Rattle.rules.specs.Tables.{Table, size, rowOf, accepts}
+use Rattle.rules.specs.Verdicts.{admitted, order}
+use Rattle.rules.specs.Runs.{verdictNumbers}
 use Rattle.rules.specs.Counts.{workOf}
 use Rattle.promises.specs.Buffers.{placing}
 use Rattle.promises.specs.Frames.{OnTime, totalsOf, losslessOf}
 use Rattle.promises.specs.Runs.{Runs, framesOf, Came}
-use Rattle.promises.specs.Calls.{Opening, Held, calls, VerdictCall, verdictRead, TotalsCall, totalsRead, LeadCall, leadRead}
+use Rattle.promises.specs.Calls.{Opening, Held, calls, VerdictCall, verdictRead, orderRead, TotalsCall, totalsRead, LeadCall, leadRead}
 
 -- A caller opened a table and got the bytes `start`. He asked for the verdict, and frame `11` says 01.
 pub record Admitted (tbl : Table) (start : List ℕ) : Type 0 where
@@ -34,7 +35,14 @@ pub record Promise (tbl : Table) {start end : List ℕ} {b : ℕ} (runs : Runs c
   -- whenever he asks for the totals, frame `14` says 0 misses and 0 dropped units
   pub totals : (t : TotalsCall end) → totalsRead t ≡ losslessOf tbl b (framesOf (tbl .m) runs)
 
--- Of every table that is opened, admitted or not: what its runs come to, and what is told of them.
+-- Of every table that is opened, admitted or not: what the verdict says of it, ..
+pub record Judged (tbl : Table) {start : List ℕ} (v : VerdictCall start) : Type 0 where
+  -- verdict, number of heavy tasks and H
+  pub verdict : verdictRead v ≡ verdictNumbers tbl
+  -- the priority order
+  pub priorities : orderRead (size tbl) v ≡ order tbl
+
+-- .. what its runs come to, and what is told of them.
 pub record Account (tbl : Table) {start end : List ℕ} {b : ℕ} (runs : Runs calls start end b) : Type 0 where
   pub came : Came (Held tbl) tbl runs
   -- frame `14` says what the frames of the slots add up to

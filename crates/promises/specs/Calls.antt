@@ -71,12 +71,15 @@ pub record TimeAndRoom (tbl : Table) (b : ℕ) (r : Call zq-run.Post) : Type 0 w
 
 -- ---- what is asked of some bytes, and the answer as it is read from what the call left
 
--- `zq_verdict`: state, out, at, size; the numbers of frame `11`
+-- `zq_verdict`: state, out, at, size; the numbers of frame `11`, and those of frame `12` of n tasks right behind it
 abbrev pub VerdictCall : List ℕ → Type 0
 VerdictCall bytes = (v : Call zq-verdict.Post) × (v .result ≡ 0) × (now (v .args .0) ≡ bytes)
 
 abbrev pub verdictRead : {bytes : List ℕ} → VerdictCall bytes → List ℕ
 verdictRead v = numbersAt Frames.verdict (now (v .0 .exits .1 .0)) (v .0 .args .1 .1 .0)
+
+abbrev pub orderRead : {bytes : List ℕ} → ℕ → VerdictCall bytes → List ℕ
+orderRead n v = numbersAt (Frames.order n) (now (v .0 .exits .1 .0)) (v .0 .args .1 .1 .0 + 15)
 
 -- `zq_totals`: state, out, at, size; the numbers of frame `14`
 abbrev pub TotalsCall : List ℕ → Type 0

@@ -2,9 +2,11 @@
 use Prim.Native.Nat.{ℕ, _≤_}
 use mathlib.Core.Path.{_≡_}
 use denote.Ref.{now}
+use lib.Dec.{T}
 use lib.ListN.{replicate}
 use Rattle.rules.specs.Limits.{tasksMax, clockMax}
 use Rattle.rules.specs.Tables as Rules
+use Rattle.rules.specs.Verdicts.{admitted}
 use Rattle.rules.specs.States.{fresh}
 use Rattle.rules.specs.Runs.{after}
 use Rattle.rules.specs.declared.verdict.Verdict.the-variants.{Admitted}
@@ -64,6 +66,8 @@ pub record Lossless (s : State) : Type 0 where
 
 -- what the runs of an admitted table come to that begin at what `fresh` returned
 pub record StructPromise (tbl : Rules.Table) {start end : State} {b : ℕ} (runs : Runs structs start end b) : Type 0 where
+  pub accepted : T (Rules.accepts tbl)
+  pub admitted : T (admitted tbl)
   pub came : Came (Reached tbl) tbl runs
   pub on-time : OnTime tbl b (framesOf (tbl .m) runs)
   pub lossless : Lossless end

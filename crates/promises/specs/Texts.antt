@@ -3,13 +3,14 @@ use Prim.Native.Nat.{ℕ, _+_, _*_}
 use mathlib.Core.Path.{_≡_}
 use mathlib.Core.List.{List}
 use denote.Ref.{now}
+use lib.Dec.{T}
 use lib.ListN.{take}
 use Rattle.rules.specs.Limits.{inputMax}
 use Rattle.rules.specs.Refusals.{taken}
 use Rattle.rules.specs.Frames as Frames
-use Rattle.rules.specs.Tables.{Table, size}
+use Rattle.rules.specs.Tables.{Table, size, accepts}
 use Rattle.rules.specs.Files.{readFile}
-use Rattle.rules.specs.Verdicts.{order}
+use Rattle.rules.specs.Verdicts.{admitted, order}
 use Rattle.rules.specs.States.{fresh}
 use Rattle.rules.specs.Runs.{after, verdictNumbers}
 use Rattle.rules.specs.Program.{report, program}
@@ -53,6 +54,8 @@ pub record TextAccount (tbl : Table) (out : List ℕ) (place : ℕ) : Type 0 whe
 -- the text of an admitted table: no frame `13` shows a miss, the light tasks keep up, and frame `14` says 0 misses and 0 dropped
 -- units
 pub record TextPromise (tbl : Table) (out : List ℕ) (place : ℕ) : Type 0 where
+  pub accepted : T (accepts tbl)
+  pub admitted : T (admitted tbl)
   pub account : TextAccount tbl out place
   pub on-time : OnTime tbl (slotsOf tbl) (textFrames tbl out place)
   pub lossless : textTotals tbl out place ≡ losslessOf tbl (slotsOf tbl) (textFrames tbl out place)

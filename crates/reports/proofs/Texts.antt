@@ -22,7 +22,7 @@ use Rattle.rules.specs.declared.kinds.Repeat.{Repeat}
 use Rattle.rules.specs.declared.kinds.RepeatAnswer.{RepeatAnswer}
 use Rattle.rules.specs.declared.kinds.RepeatAnswer.the-variants.{Within, Outside}
 use Rattle.priority_laws.proofs.Repeat.{repeat-pos}
-use Rattle.slot_laws.proofs.Books.{fresh-formed, after-formed}
+use Rattle.slot_laws.proofs.Books.{fresh-formed, run-formed}
 use Rattle.slot_laws.proofs.Lengths.{length-slotLines, length-totalsLine}
 use Rattle.reading_laws.proofs.Lays.{lay-front, length-lay}
 use Rattle.tables.specs.Views.{view}
@@ -114,8 +114,7 @@ module _ (tbl : Rules.Table) (a : T (accepts tbl)) (count : ℕ) (few : count �
   length-slots = length-slotLines count (fresh tbl)
 
   formed-after : T (wellFormed (after count (fresh tbl)))
-  unfolding fresh
-  formed-after = after-formed count (fresh tbl) (fresh-formed tbl a) (omega arith)
+  formed-after = run-formed tbl a count (omega arith)
 
   module _ {s : State} (started : s ≡ pack (fresh tbl)) {r : RunAnswer} {out′ : List ℕ} (ran : runEnd r out′ ≡ runAnswer s count out 0) where
     -- the run is taken

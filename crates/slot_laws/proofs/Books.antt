@@ -304,6 +304,11 @@ module _ (tbl : Table) (t : T (accepts tbl)) (b : ℕ) where
   pub run-kept : Kept (after b (fresh tbl))
   run-kept = after-kept b (fresh-kept tbl (accepted tbl t))
 
+  -- and is well formed up to the clock's bound
+  pub run-formed : b ≤ clockMax → T (wellFormed (after b (fresh tbl)))
+  unfolding fresh
+  run-formed soon = after-formed b (fresh tbl) (fresh-formed tbl t) (omega arith)
+
   -- at every boundary what was released of a task is done, left or dropped
   pub conservation : (i : ℕ) → 1 ≤ i → i ≤ size tbl
       → released (rowOf tbl i) b ≡ at (after b (fresh tbl) .done) i + at (after b (fresh tbl) .left) i + at (after b (fresh tbl) .dropped) i
