@@ -13,21 +13,17 @@ use Rattle.laws.proofs.Positions.{count-take, count-filter-le}
 use Rattle.laws.proofs.Entries.{count-numbers-le}
 use Rattle.rules.specs.Tables.{Table, size, rowOf}
 use Rattle.rules.specs.Repeat.{repeatLength}
-use Rattle.rules.specs.Verdicts.{light, heavyCount, share}
+use Rattle.rules.specs.Verdicts.{light, heavyCount, share, sharesOf}
 use Rattle.rules.specs.Counts.{sumBefore, workOf, workOfAll}
 use Rattle.rules.specs.Obeys.{Priority, Rightly, lightsOf}
 use Rattle.priority_laws.proofs.Priority.{light-at}
 use Rattle.slot_laws.proofs.Forms.{Accepted}
 use Rattle.slot_laws.proofs.WorkCounts.{work-of-all}
-use Rattle.bound.specs.Setting.{WithinLimit}
+use Rattle.bound.proofs.Within.{WithinLimit}
 use Rattle.bound.proofs.Theorem.{always-ahead}
 use Rattle.bound.proofs.Prefixes.{sum-of-first}
 use Rattle.bound.proofs.Ranked.{ranked, table-conditions}
 use Rattle.bound.proofs.Scheduled.{scheduled}
-
--- the shares of some tasks together
-abbrev pub sharesOf : Table → List ℕ → ℕ
-sharesOf tbl is = sum (map (λ i. share (repeatLength (tbl .rows)) (rowOf tbl i)) is)
 
 module _ (tbl : Table) (ranks : List ℕ) (r : Priority tbl ranks) where
   abbrev ls : List ℕ

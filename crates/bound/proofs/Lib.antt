@@ -2,6 +2,7 @@ pub mod SumBefore
 pub mod Bookkeeping
 pub mod OneSlot
 pub mod Shares
+pub mod Within
 pub mod Numbers
 pub mod Theorem
 pub mod Prefixes

@@ -23,7 +23,7 @@ use Rattle.slot_laws.proofs.Forms.{Accepted}
 use Rattle.slot_laws.proofs.Given.{stateWith, dropped-length-with, next-misses-with}
 use Rattle.slot_laws.proofs.Obeying.{rightly-ready}
 use Rattle.slot_laws.proofs.MissCounts.{misses-shown-with, dropped-counted-with}
-use Rattle.bound.specs.Setting.{WithinLimit}
+use Rattle.bound.proofs.Within.{WithinLimit}
 use Rattle.bound.proofs.Theorem.{never-misses}
 use Rattle.bound.proofs.Ranked.{ranked, table-conditions}
 use Rattle.bound.proofs.Scheduled.{scheduled}

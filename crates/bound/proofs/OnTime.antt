@@ -12,8 +12,8 @@ use Rattle.rules.specs.Obeys.{Priority, Rightly, lightsOf}
 use Rattle.slot_laws.proofs.Forms.{Accepted, accepted}
 use Rattle.slot_laws.proofs.Given.{stateWith}
 use Rattle.slot_laws.proofs.SameSlots.{work-all-same}
-use Rattle.bound.specs.Setting.{WithinLimit}
 use Rattle.bound.specs.OnTime.{OnTime, OnTimeAlways}
+use Rattle.bound.proofs.Within.{WithinLimit}
 use Rattle.bound.proofs.NoMiss.{slot-misses-none, run-misses-none, run-dropped-none}
 use Rattle.bound.proofs.KeepUp.{lights-keep-up}
 use Rattle.bound.proofs.Prolonged.{prolonged, prolonged-same, prolonged-state, prolonged-rightly}

@@ -19,7 +19,8 @@ use Rattle.priority_laws.proofs.Priority.{ranks-sum, ranks-length, ranks-all, h
 use Rattle.priority_laws.proofs.Repeat.{Periodic, repeat-pos, repeat-share}
 use Rattle.reading_laws.specs.Bounds.{RowInBounds}
 use Rattle.slot_laws.proofs.Forms.{Accepted}
-use Rattle.bound.specs.Setting.{Tasks, Conditions, tasks, lightAt, WithinLimit}
+use Rattle.bound.specs.Setting.{Tasks, Conditions, tasks, lightAt}
+use Rattle.bound.proofs.Within.{WithinLimit}
 use Rattle.bound.proofs.Shares.{Admitted, general-conditions}
 use Rattle.bound.proofs.Prefixes.{sum-of-first}
 

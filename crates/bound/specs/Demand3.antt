@@ -2,13 +2,11 @@
 -- that the machine runs from the fresh state. `proofs/Demand3.antt` proves it.
 use Prim.Native.Nat.{ℕ, _*_, _≤_, _<_}
 use mathlib.Core.Path.{_≡_}
-use mathlib.Core.List.{map}
 use lib.Dec.{T}
 use lib.ListN.{take, replicate}
-use Rattle.laws.specs.Lists.{sum}
-use Rattle.rules.specs.Tables.{Table, size, rowOf, accepts}
+use Rattle.rules.specs.Tables.{Table, size, accepts}
 use Rattle.rules.specs.Repeat.{repeatLength}
-use Rattle.rules.specs.Verdicts.{share, lights, admitted}
+use Rattle.rules.specs.Verdicts.{lights, admitted, sharesOf}
 use Rattle.rules.specs.States.{fresh}
 use Rattle.rules.specs.Slots.{slot}
 use Rattle.rules.specs.Runs.{after}
@@ -24,7 +22,7 @@ pub record Demand3 (tbl : Table) (b : ℕ) : Type 0 where
   -- the first k light tasks in priority order, for every k, were given at least their shares of b slots: the work is
   -- counted from the cores that held them in the slots run, and both sides are scaled by H
   pub lights-ahead : (k : ℕ)
-      → b * sum (map (λ i. share (repeatLength (tbl .rows)) (rowOf tbl i)) (take k (lights tbl)))
+      → b * sharesOf tbl (take k (lights tbl))
       ≤ repeatLength (tbl .rows) * workOfAll (coresIn tbl) (take k (lights tbl)) b
 
 -- the theorem: it holds of every accepted and admitted table, at every boundary

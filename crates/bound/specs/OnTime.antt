@@ -1,14 +1,13 @@
--- What the verdict "admitted" promises of any run of a table with its own order and placings, whoever made it. All is said in
+-- What the verdict "admitted" promises of a run of a table with any order and placings that obey, whoever made it. All is said in
 -- the rules' definitions. `proofs/OnTime.antt` proves it.
 use Prim.Native.Nat.{ℕ, _*_, _≤_, _<_}
 use mathlib.Core.Path.{_≡_}
-use mathlib.Core.List.{List, map}
+use mathlib.Core.List.{List}
 use lib.Dec.{T}
 use lib.ListN.{take, replicate}
-use Rattle.laws.specs.Lists.{sum}
-use Rattle.rules.specs.Tables.{Table, size, rowOf, accepts}
+use Rattle.rules.specs.Tables.{Table, size, accepts}
 use Rattle.rules.specs.Repeat.{repeatLength}
-use Rattle.rules.specs.Verdicts.{share, admitted}
+use Rattle.rules.specs.Verdicts.{admitted, sharesOf}
 use Rattle.rules.specs.States.{freshWith}
 use Rattle.rules.specs.Counts.{workOfAll}
 use Rattle.rules.specs.Obeys.{slotWith, afterWith, lightsOf, Obeys}
@@ -23,7 +22,7 @@ pub record OnTime (tbl : Table) (ranks : List ℕ) (run : ℕ → List ℕ) (b :
   -- the first k light tasks of the run's own order, for every k, were given at least their shares of b slots: the work is
   -- counted from the cores that held them in the slots run, and both sides are scaled by H
   pub lights-ahead : (k : ℕ)
-      → b * sum (map (λ i. share (repeatLength (tbl .rows)) (rowOf tbl i)) (take k (lightsOf tbl ranks)))
+      → b * sharesOf tbl (take k (lightsOf tbl ranks))
       ≤ repeatLength (tbl .rows) * workOfAll run (take k (lightsOf tbl ranks)) b
 
 -- the theorem: where the first b slots of a run of an accepted and admitted table obey, it is on time at every boundary up to b

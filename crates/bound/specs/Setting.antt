@@ -2,9 +2,6 @@
 -- from 0; the heavy tasks have the first ranks. Tests are numbers here, 0 or 1.
 use Prim.Native.Nat.{ℕ, suc, _+_, _-_, _*_, _≤_, _<_, min}
 use mathlib.Core.Path.{_≡_}
-use Rattle.rules.specs.Repeat.{repeatLength}
-use Rattle.rules.specs.Tables.{Table}
-use Rattle.rules.specs.Verdicts.{fraction, scaledSum}
 use Rattle.rules.specs.Counts.{sumBefore}
 
 -- One task with period T and demand C: its left work in each slot, after the releases, and the units that it is given
@@ -27,10 +24,6 @@ pub record Tasks : Type 0 where
   pub timed : (k : ℕ) → k < heavies + lights → 0 < period k
   pub fitting : (k : ℕ) → k < heavies + lights → demand k ≤ period k
   pub even : (k : ℕ) → k < heavies + lights → share k * period k ≡ demand k * repeat
-
--- what admission says of a table, as an inequality: its shares sum to at most m times the fraction
-abbrev pub WithinLimit : Table → Type 0
-WithinLimit tbl = fraction (tbl .m) .den * scaledSum tbl ≤ tbl .m * fraction (tbl .m) .num * repeatLength (tbl .rows)
 
 -- how many tasks there are
 abbrev pub tasks : Tasks → ℕ

@@ -1,1 +1,1 @@
-// Demand 3: an admitted table misses no deadline. `proofs/` has the argument and the theorem. There is no code here.
+// Demand 3: an admitted table misses no deadline. `specs/` has the statements, `proofs/` the argument. There is no code here.

@@ -1,28 +1,27 @@
 -- A run of a stored state: what it leaves, and the reply.
-use Prim.Native.Nat.{ℕ, _+_, _*_, _≤_}
+use Prim.Native.Nat.{ℕ, _*_, _≤_}
 use mathlib.Core.Path.{_≡_, refl, sym, ap, _∙_}
-use mathlib.Core.Bool.{not}
-use mathlib.Core.List.{List, [], _∷_, append-nil}
+use mathlib.Core.List.{List, append-nil}
 use native.Mathlib.Omega.{arith}
-use lib.Dec.{T, ltb, nltb→le}
+use lib.Dec.{T}
 use lib.ListN.{length}
 use lib.Seq.{drop-length}
-use Rattle.laws.proofs.Tests.{never, and-left, and-right}
-use Rattle.rules.specs.Limits.{coresMax, clockMax}
-use Rattle.rules.specs.Refusals.{numberOf, Test, test, passes, Answer, taken, refused, andThen}
+use Rattle.laws.proofs.Tests.{never}
+use Rattle.rules.specs.Limits.{coresMax}
+use Rattle.rules.specs.Refusals.{numberOf, Answer, taken, refused, andThen}
 use Rattle.rules.specs.Tables.{Table, size}
 use Rattle.rules.specs.States.{State}
 use Rattle.rules.specs.Forms.{wellFormed}
 use Rattle.rules.specs.Runs.{after, slotLines}
-use Rattle.rules.specs.Answers.{Ran, lay, roomTest, stateTest, runSlots}
+use Rattle.rules.specs.Answers.{Ran, lay, runSlots}
 use Rattle.rules.specs.declared.refusal.Refusal.{Refusal}
-use Rattle.rules.specs.declared.refusal.Refusal.the-variants.{PastClock, BadState}
-use Rattle.reading_laws.proofs.Tests.{settle-taken}
+use Rattle.rules.specs.declared.refusal.Refusal.the-variants.{BadState}
 use Rattle.reading_laws.proofs.Lays.{lay-front}
 use Rattle.slot_laws.proofs.Forms.{formed-kept}
 use Rattle.slot_laws.proofs.Books.{after-formed}
 use Rattle.slot_laws.proofs.After.{after-table}
 use Rattle.slot_laws.proofs.Lengths.{length-slotLines}
+use Rattle.slot_laws.proofs.Answers.{runTests, ranSo, taken-ran}
 use Rattle.tables.specs.Views as Tables
 use Rattle.tables.proofs.Written.{text-laid}
 use Rattle.tables.specs.Writes.{Wrote, made}
@@ -80,21 +79,6 @@ module _ (s : StateDeclared.State) (out : List ℕ) {a : RunAnswer} {out′ : Li
       let o : a .outcome ≡ Refused q = ap (λ x. x .answer .outcome) e in
       never cc
 
--- the state and the buffer that the rules give, and the tests before them
-module _ (count : ℕ) (out : List ℕ) (place : ℕ) (st : State) where
-  abbrev tests : List Test
-  tests = test (ltb clockMax (st .clock + count)) PastClock ∷ roomTest out place (length (slotLines count st)) ∷ []
-
-  abbrev ranOf : Ran
-  ranOf = record { state = after count st; out = lay out place (slotLines count st) }
-
-  -- a run that was taken ends in time
-  in-time : T (passes (stateTest st ∷ tests)) → st .clock + count ≤ clockMax
-  unfolding stateTest
-  in-time t =
-      nltb→le clockMax (st .clock + count)
-      (and-left (not (ltb clockMax (st .clock + count))) _ (and-right (not (not (wellFormed st))) _ t))
-
 -- the call's answer by that of reading the bytes
 abbrev runOf : ℕ → List ℕ → ℕ → Answer State → Answer Run
 runOf count out place b =
@@ -114,12 +98,12 @@ record Took (bs : List ℕ) (count : ℕ) (out : List ℕ) (place : ℕ) (b : An
 module _ (bs : List ℕ) (count : ℕ) (out : List ℕ) (place : ℕ) {a : RunAnswer} {out′ : List ℕ} where
   took : {b : Answer State} → Loads bs b → runEnd a out′ ≡ ended (stateAnswer b .state) out (andThen b (λ st. runSlots st count out place)) → a .outcome ≡ Taken
       → Took bs count out place b (stateAnswer b .state) (a .state) out′
-  unfolding stateAnswer runSlots
+  unfolding stateAnswer
   took (well st w len) e told =
       let found = of-taken (pack st) out (runSlots st count out place) e told in
-      let settled = settle-taken (stateTest st ∷ tests count out place st) (ranOf count out place st) (found .0) (found .1) in
-      let ends : T (wellFormed (after count st)) = after-formed count st w (in-time count out place st (settled .0)) in
-      let same : found .0 ≡ ranOf count out place st = sym (settled .1) in
+      let ran = taken-ran count out place st w (found .1) in
+      let ends : T (wellFormed (after count st)) = after-formed count st w (ran .0) in
+      let same : found .0 ≡ ranSo count out place st = ran .2 in
       record {
         st = st;
         same-m = packed-m st;
@@ -140,7 +124,7 @@ module _ (bs : List ℕ) (count : ℕ) (out : List ℕ) (place : ℕ) {x : State
     by-bytes =
         e
         ∙ ap (λ (y : StateAnswer). ended (y .state) out (asked (y .state) (λ st. runSlots st count out place))) read
-        ∙ ap (ended (stateAnswer (load bs) .state) out) (asked-loaded (tests count out place) (ranOf count out place) bs)
+        ∙ ap (ended (stateAnswer (load bs) .state) out) (asked-loaded (runTests count out place) (ranSo count out place) bs)
 
     pub run-refused : (before : ℕ) {r : Refusal} → a .outcome ≡ Refused r → reply (numberOf r) (run bs out′ before) ≡ replied (run bs out before) (runStored bs count out place)
     unfolding runStored replied

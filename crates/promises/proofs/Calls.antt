@@ -12,10 +12,9 @@ use Rattle.laws.proofs.Tests.{never, and-T, and-left}
 use Rattle.rules.specs.Refusals.{test, Answer, taken, refused, settle, andThen}
 use Rattle.rules.specs.Tables.{Table, size, outside, accepts}
 use Rattle.rules.specs.Frames as Frames
-use Rattle.rules.specs.Verdicts.{order}
 use Rattle.rules.specs.States.{State, fresh}
 use Rattle.rules.specs.Forms.{wellFormed}
-use Rattle.rules.specs.Runs.{after, slotLines, verdictNumbers, verdictLine, orderLine, totalsNumbers, totalsLine, lead}
+use Rattle.rules.specs.Runs.{after, slotLines, totalsNumbers, totalsLine, lead}
 use Rattle.rules.specs.Answers.{Ran, runSlots, writeTotals, askLead}
 use Rattle.rules.specs.declared.refusal.Refusal.the-variants.{BadTasks}
 use Rattle.reading_laws.proofs.Tests.{settle-passes, settle-taken, number-iff}
@@ -23,33 +22,40 @@ use Rattle.slot_laws.proofs.Forms.{accepted}
 use Rattle.slot_laws.proofs.Books.{run-kept, run-formed}
 use Rattle.slot_laws.proofs.Boundaries.{table-at, clock-at}
 use Rattle.slot_laws.proofs.Lengths.{length-slotLines, length-totalsLine}
-use Rattle.slot_laws.proofs.Fitting.{verdict-read, order-read, totals-read}
+use Rattle.slot_laws.proofs.Answers.{well-first, run-taken}
 use Rattle.runs.specs.Slots.{frameLength}
 use Rattle.stored.specs.Layout.{store, load}
 use Rattle.stored.proofs.Round.{stored-loads}
 use Rattle.reports.specs.Heads.{head, headLength}
-use Rattle.reports.proofs.Heads.{length-verdictLine, length-head}
+use Rattle.reports.proofs.Heads.{length-head}
 use Rattle.capi.specs.Calls.{sized, laid, Run, run, runStored, giveVerdict, giveTotals, giveLead}
 use Rattle.capi.proofs.verdict.zq_verdict.Reads as zq-verdict
 use Rattle.capi.proofs.state.zq_run.Reads as zq-run
 use Rattle.capi.proofs.state.zq_totals.Reads as zq-totals
 use Rattle.capi.proofs.state.zq_lead.Reads as zq-lead
-use Rattle.promises.specs.Buffers.{Holds}
+use Rattle.promises.specs.Buffers.{totalsLength, Holds}
+use Rattle.promises.specs.Frames.{HeadOf}
 use Rattle.promises.specs.Calls.{Call, Held, RunCall, calls, TimeAndRoom, VerdictCall, TotalsCall, totalsRead, LeadCall, leadRead}
-use Rattle.promises.specs.Admitted.{Judged}
-use Rattle.promises.proofs.Holding.{held-first, held-next, held-numbers}
-use Rattle.promises.proofs.Replies.{zero-taken, taken-zero, laid-taken, laid-holds, well-first, totals-laid, run-taken}
+use Rattle.promises.proofs.Holding.{held-head, held-totals}
+use Rattle.promises.proofs.Replies.{zero-taken, taken-zero, laid-taken, laid-holds, totals-laid}
 use Rattle.promises.proofs.Running as Running
 
 module _ {tbl : Table} (t : T (accepts tbl)) {b : ℕ} {bytes : List ℕ} (g : Held tbl b bytes) where
   formed : T (wellFormed (after b (fresh tbl)))
   formed = run-formed tbl t b (g .in-time)
 
-  -- what is asked of the bytes is asked of the state
+  -- the bytes are loaded as the state, and what is asked of them is asked of it
+  pub held-loads : load bytes ≡ taken (after b (fresh tbl))
+  held-loads = ap load (g .says) ∙ stored-loads (after b (fresh tbl)) formed
+
   asked-of : {A : Type 0} (ask : State → Answer A) → andThen (load bytes) ask ≡ ask (after b (fresh tbl))
-  asked-of ask = ap (λ (x : Answer State). andThen x ask) (ap load (g .says) ∙ stored-loads (after b (fresh tbl)) formed)
+  asked-of ask = ap (λ (x : Answer State). andThen x ask) held-loads
 
 -- ---- `zq_run`
+
+-- how long the frames of so many slots are
+lines-long : (tbl : Table) (b k : ℕ) → length (slotLines k (after b (fresh tbl))) ≡ k * frameLength (tbl .m)
+lines-long tbl b k = length-slotLines k (after b (fresh tbl)) ∙ ap (λ (x : Table). k * frameLength (x .m)) (table-at tbl b)
 
 module _ {tbl : Table} (t : T (accepts tbl)) (r : Call zq-run.Post) {b : ℕ} (g : Held tbl b (now (r .args .0))) where
   abbrev count : ℕ
@@ -89,10 +95,16 @@ pub run-returns : {tbl : Table} → T (accepts tbl) → (r : Call zq-run.Post) {
 run-returns {tbl} t r {b} w =
     let st : State = after b (fresh tbl) in
     let k : ℕ = count t r (w .held) in
-    let long : length (slotLines k st) ≡ k * frameLength (tbl .m) = length-slotLines k st ∙ ap (λ (x : Table). k * frameLength (x .m)) (table-at tbl b) in
     taken-zero _ (runStored (now (r .args .0)) k _ _) (r .permitted)
     (run-answer t r (w .held)
-    ∙ ap (λ (a : Answer Ran). andThen a (λ x. taken (made t r (w .held) x))) (run-taken st (formed t (w .held)) k _ _ (omega (arith, w .time, clock-at tbl b)) (omega (arith, w .room, long))))
+    ∙ ap (λ (a : Answer Ran). andThen a (λ x. taken (made t r (w .held) x))) (run-taken k _ _ st (formed t (w .held)) (omega (arith, w .time, clock-at tbl b)) (omega (arith, w .room, lines-long tbl b k))))
+
+-- and one that returns 0 sets the size to that of its frames
+pub run-size : {tbl : Table} → T (accepts tbl) → (c : RunCall) {b : ℕ} → Held tbl b (calls .from c) → now (c .0 .exits .1 .1 .1 .1 .0) ≡ calls .slots c * frameLength (tbl .m)
+run-size {tbl} t c {b} g =
+    let r : Call zq-run.Post = c .0 in
+    let w = was-ran t r g (runSlots (from t r g) (count t r g) (out t r g) (place t r g)) (sym (run-answer t r g) ∙ zero-taken _ (runStored (now (r .args .0)) (count t r g) (out t r g) (place t r g)) (r .permitted) (c .1)) in
+    sym (ap (λ (x : Run). x .frames .size) (w .2)) ∙ lines-long tbl b (calls .slots c)
 
 pub run-step : {tbl : Table} → T (accepts tbl) → (c : RunCall) (b : ℕ) → Held tbl b (calls .from c) → Running.Ran calls (Held tbl) tbl b c
 run-step t c b g = run-leaves t (c .0) g (c .1)
@@ -120,16 +132,9 @@ module _ {tbl : Table} (t : T (accepts tbl)) (v : Call zq-verdict.Post) {b : ℕ
   verdict-holds zero =
       laid-holds verdict-out verdict-place (head tbl) (sym verdict-answer ∙ zero-taken _ (giveVerdict (now (v .args .0)) verdict-out verdict-place) (v .permitted) zero)
 
--- frames `11` and `12` are read as the verdict and the order of the table
-pub verdict-told : {tbl : Table} → T (accepts tbl) → {b : ℕ} {bytes : List ℕ} → Held tbl b bytes → (v : VerdictCall bytes) → Judged tbl v
-verdict-told {tbl} t {b} g v =
-    let h : Holds _ _ (head tbl) = verdict-holds t (v .0) (subst (Held tbl b) (sym (v .2)) g) (v .1) in
-    record {
-      verdict = held-numbers Frames.verdict (verdictLine tbl) (verdictNumbers tbl) (verdict-read (accepted tbl t)) (held-first (verdictLine tbl) (orderLine (order tbl)) h);
-      priorities =
-          held-numbers (Frames.order (size tbl)) (orderLine (order tbl)) (order tbl) (order-read (accepted tbl t))
-          (held-next (verdictLine tbl) (orderLine (order tbl)) 15 (length-verdictLine tbl) h);
-    }
+-- frames `11` and `12` are those of the table
+pub verdict-told : {tbl : Table} → T (accepts tbl) → {b : ℕ} {bytes : List ℕ} → Held tbl b bytes → (v : VerdictCall bytes) → HeadOf tbl (now (v .0 .exits .1 .0)) (v .0 .args .1 .1 .0)
+verdict-told {tbl} t {b} g v = held-head (accepted tbl t) (verdict-holds t (v .0) (subst (Held tbl b) (sym (v .2)) g) (v .1))
 
 -- ---- `zq_totals`
 
@@ -145,7 +150,7 @@ module _ {tbl : Table} (t : T (accepts tbl)) (c : Call zq-totals.Post) {b : ℕ}
   totals-answer =
       asked-of t g (λ st. sized (length (totalsLine st)) (writeTotals st totals-out totals-place)) ∙ totals-laid (after b (fresh tbl)) (formed t g) totals-out totals-place
 
-  pub totals-returns : totals-place + 51 ≤ length totals-out → c .result ≡ 0
+  pub totals-returns : totals-place + totalsLength ≤ length totals-out → c .result ≡ 0
   totals-returns room =
       taken-zero _ (giveTotals (now (c .args .0)) totals-out totals-place) (c .permitted)
       (totals-answer ∙ laid-taken totals-out totals-place (totalsLine (after b (fresh tbl))) (omega (arith, length-totalsLine (after b (fresh tbl)))))
@@ -158,9 +163,7 @@ module _ {tbl : Table} (t : T (accepts tbl)) (c : Call zq-totals.Post) {b : ℕ}
 -- frame `14` is read as the totals of the state
 pub totals-told : {tbl : Table} → T (accepts tbl) → {b : ℕ} {bytes : List ℕ} → Held tbl b bytes → (c : TotalsCall bytes) → totalsRead c ≡ totalsNumbers (after b (fresh tbl))
 totals-told {tbl} t {b} g c =
-    held-numbers Frames.totals (totalsLine (after b (fresh tbl))) (totalsNumbers (after b (fresh tbl)))
-    (totals-read (run-kept tbl t b) (omega (arith, clock-at tbl b, g .in-time)))
-    (totals-holds t (c .0) (subst (Held tbl b) (sym (c .2)) g) (c .1))
+    held-totals (run-kept tbl t b) (omega (arith, clock-at tbl b, g .in-time)) (totals-holds t (c .0) (subst (Held tbl b) (sym (c .2)) g) (c .1))
 
 -- ---- `zq_lead`
 

@@ -9,7 +9,7 @@ use lib.Dec.{T}
 use lib.ListN.{length, take, getD}
 use lib.Seq.{take-at, getD-take, getD-append-add}
 use Rattle.laws.specs.Lists.{sum, from, each, at}
-use Rattle.laws.proofs.Each.{getD-map-from, each-cong}
+use Rattle.laws.proofs.Each.{getD-map-from, each-cong, at-replicate}
 use Rattle.laws.proofs.Entries.{sum-replicate}
 use Rattle.rules.specs.Tables.{Table, size, accepts}
 use Rattle.rules.specs.Verdicts.{admitted, lights}
@@ -26,12 +26,12 @@ use Rattle.slot_laws.proofs.Counts.{dropped-total}
 use Rattle.slot_laws.proofs.SameSlots.{work-same, work-all-same, moved-same, moves-same, missed-same, misses-same, dropped-same}
 use Rattle.bound.specs.Demand3.{Demand3}
 use Rattle.bound.proofs.Demand3.{demand-3}
-use Rattle.promises.specs.Buffers.{coresOf, movesOf, missesOf, frameOf, placing}
-use Rattle.promises.specs.Frames.{Scheduled, Counted, OnTime, totalsOf, losslessOf}
+use Rattle.promises.specs.Buffers.{tasksOn, movesOf, missesOf, frameOf, placing}
+use Rattle.promises.specs.Frames.{Scheduled, Counted, FramesOnTime, totalsOf, losslessOf}
 
 -- what stands in the frame of a showing of m cores
 module _ {m : ℕ} (x : Shown) (wide : length (x .cores) ≡ m) where
-  shows-cores : coresOf m (slotNumbers x) ≡ x .cores
+  shows-cores : tasksOn m (slotNumbers x) ≡ x .cores
   shows-cores = take-at (x .cores) (x .moves ∷ x .misses ∷ []) m wide
 
   -- the number k behind the cores
@@ -60,7 +60,7 @@ module _ {tbl : Table} {b : ℕ} {frames : List (List ℕ)} (shown : Scheduled t
     -- it shows the placing of its slot, and the slot's moves and misses
     cores-shown : placing (tbl .m) frames s ≡ coresIn tbl s
     unfolding coresIn
-    cores-shown = ap (coresOf (tbl .m)) (frame-at s h) ∙ shows-cores (slot (after s (fresh tbl)) .shown) wide
+    cores-shown = ap (tasksOn (tbl .m)) (frame-at s h) ∙ shows-cores (slot (after s (fresh tbl)) .shown) wide
 
     moves-read : movesOf (tbl .m) (frameOf frames s) ≡ slot (after s (fresh tbl)) .shown .moves
     moves-read = ap (movesOf (tbl .m)) (frame-at s h) ∙ shows-moves (slot (after s (fresh tbl)) .shown) wide
@@ -84,10 +84,16 @@ module _ {tbl : Table} {b : ℕ} {frames : List (List ℕ)} (shown : Scheduled t
       }
 
   -- and demand 3 holds of them
-  pub scheduled-on-time : T (accepts tbl) → T (admitted tbl) → OnTime tbl b frames
+  pub scheduled-on-time : T (accepts tbl) → T (admitted tbl) → FramesOnTime tbl b frames
   scheduled-on-time t a =
       record {
         none-missed = λ s h. misses-read s h ∙ demand-3 tbl t a b .none-shown s h;
+        none-dropped =
+            λ u i h low high.
+            dropped-same read (coresIn tbl) b cores-shown tbl i u h
+            ∙ sym (dropped-counted tbl i low high u)
+            ∙ ap (λ (l : List ℕ). at l i) (demand-3 tbl t a u .no-drop)
+            ∙ at-replicate (size tbl) 0 i low high;
         lights-ahead = λ u k h. rw (work-all-same read (coresIn tbl) b cores-shown (take k (lights tbl)) u (omega arith)) (demand-3 tbl t a u .lights-ahead k);
       }
 
@@ -107,16 +113,20 @@ module _ {tbl : Table} {b : ℕ} {frames : List (List ℕ)} (shown : Scheduled t
       cc (scheduled-counted .moves)
 
 -- the first of some frames say no less than all of them: what holds at a boundary held at every one before it
-module _ {tbl : Table} {b : ℕ} {frames : List (List ℕ)} (w : OnTime tbl b frames) (u : ℕ) (h : u ≤ b) where
+module _ {tbl : Table} {b : ℕ} {frames : List (List ℕ)} (w : FramesOnTime tbl b frames) (u : ℕ) (h : u ≤ b) where
   first-frame : (s : ℕ) → s < u → frameOf (take u frames) s ≡ frameOf frames s
   first-frame s l = getD-take u frames s [] l
 
-  pub first-on-time : OnTime tbl u (take u frames)
+  first-placing : (s : ℕ) → s < u → placing (tbl .m) (take u frames) s ≡ placing (tbl .m) frames s
+  first-placing s l = ap (tasksOn (tbl .m)) (first-frame s l)
+
+  pub first-on-time : FramesOnTime tbl u (take u frames)
   first-on-time =
       record {
         none-missed = λ s l. ap (missesOf (tbl .m)) (first-frame s l) ∙ w .none-missed s (omega arith);
+        none-dropped = λ v i l low high. dropped-same (placing (tbl .m) (take u frames)) (placing (tbl .m) frames) u first-placing tbl i v l ∙ w .none-dropped v i (omega arith) low high;
         lights-ahead =
             λ v k l.
-            rw (work-all-same (placing (tbl .m) (take u frames)) (placing (tbl .m) frames) u (λ s i. ap (coresOf (tbl .m)) (first-frame s i)) (take k (lights tbl)) v (omega arith))
+            rw (work-all-same (placing (tbl .m) (take u frames)) (placing (tbl .m) frames) u first-placing (take k (lights tbl)) v (omega arith))
             (w .lights-ahead v k (omega arith));
       }

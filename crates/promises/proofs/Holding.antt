@@ -13,17 +13,21 @@ use Rattle.laws.proofs.Sums.{map-from-suc}
 use Rattle.rules.specs.Limits.{clockMax}
 use Rattle.rules.specs.Frames as Frames
 use Rattle.rules.specs.Frames.{Shape, readFrame}
-use Rattle.rules.specs.Tables.{Table}
+use Rattle.rules.specs.Tables.{Table, size}
+use Rattle.rules.specs.Verdicts.{order}
 use Rattle.rules.specs.States.{State}
 use Rattle.rules.specs.Slots.{slot}
-use Rattle.rules.specs.Runs.{shows, slotNumbers, slotLine, slotLines}
+use Rattle.rules.specs.Runs.{shows, slotNumbers, slotLine, slotLines, verdictNumbers, verdictLine, orderLine, totalsNumbers, totalsLine}
 use Rattle.rules.specs.Answers.{lay}
-use Rattle.slot_laws.proofs.Forms.{Kept}
+use Rattle.slot_laws.proofs.Forms.{Accepted, Kept}
 use Rattle.slot_laws.proofs.Books.{slot-kept, slot-clock}
 use Rattle.slot_laws.proofs.Lengths.{length-slotLine, slot-width, slot-table}
-use Rattle.slot_laws.proofs.Fitting.{slot-read}
+use Rattle.slot_laws.proofs.Fitting.{verdict-read, order-read, slot-read, totals-read}
 use Rattle.runs.specs.Slots.{frameLength}
-use Rattle.promises.specs.Buffers.{numbersOf, numbersAt, frameAt, framesAt, Holds}
+use Rattle.reports.specs.Heads.{head}
+use Rattle.reports.proofs.Heads.{length-verdictLine}
+use Rattle.promises.specs.Buffers.{numbersOf, numbersAt, verdictLength, frameAt, framesAt, Holds}
+use Rattle.promises.specs.Frames.{HeadOf}
 
 -- ---- texts
 
@@ -55,6 +59,20 @@ module _ {out : List ℕ} {place : ℕ} where
       → Holds out place line → numbersAt sh out place ≡ numbers
   unfolding numbersAt
   held-numbers sh line numbers read h = ap (λ (s : List ℕ). numbersOf (readFrame sh s)) (h .here) ∙ ap numbersOf (read (h .rest))
+
+-- ---- frames `11`, `12` and `14`
+
+pub held-head : {tbl : Table} → Accepted tbl → {out : List ℕ} {place : ℕ} → Holds out place (head tbl) → HeadOf tbl out place
+held-head {tbl} a h =
+    record {
+      verdict = held-numbers Frames.verdict (verdictLine tbl) (verdictNumbers tbl) (verdict-read a) (held-first (verdictLine tbl) (orderLine (order tbl)) h);
+      priorities =
+          held-numbers (Frames.order (size tbl)) (orderLine (order tbl)) (order tbl) (order-read a)
+          (held-next (verdictLine tbl) (orderLine (order tbl)) verdictLength (length-verdictLine tbl) h);
+    }
+
+pub held-totals : {st : State} → Kept st → st .clock ≤ clockMax → {out : List ℕ} {place : ℕ} → Holds out place (totalsLine st) → numbersAt Frames.totals out place ≡ totalsNumbers st
+held-totals {st} kept soon h = held-numbers Frames.totals (totalsLine st) (totalsNumbers st) (totals-read kept soon) h
 
 -- ---- the frames of slots
 

@@ -5,7 +5,7 @@ pub mod Structs
 pub mod Opening
 pub mod Calls
 pub mod Replies
-pub mod Judged
+pub mod Verdicts
 pub mod Running
 pub mod Counting
 pub mod Holding

@@ -1,4 +1,4 @@
--- A call returns 0 exactly where its answer is taken, and what was asked is taken exactly where there is time and room.
+-- A call returns 0 exactly where its answer is taken, and a text is laid into a buffer exactly where there is room.
 use Prim.Native.Nat.{ℕ, _+_, _≤_}
 use mathlib.Core.Path.{_≡_, refl, sym, ap, subst, _∙_}
 use mathlib.Core.Bool.{not}
@@ -7,16 +7,16 @@ use native.Mathlib.Omega.{arith}
 use borrow.Author.Tests.{le-ltb}
 use lib.Dec.{T, ltb, nltb→le}
 use lib.ListN.{length}
-use Rattle.laws.proofs.Tests.{never, of-T, and-left, and-right}
-use Rattle.rules.specs.Limits.{clockMax}
-use Rattle.rules.specs.Refusals.{numberOf, Test, test, Answer, taken, refused, settle, andThen}
+use Rattle.laws.proofs.Tests.{never, and-left}
+use Rattle.rules.specs.Refusals.{numberOf, Answer, taken, refused, settle, andThen}
 use Rattle.rules.specs.States.{State}
 use Rattle.rules.specs.Forms.{wellFormed}
-use Rattle.rules.specs.Runs.{after, slotLines, totalsLine}
-use Rattle.rules.specs.Answers.{Ran, lay, roomTest, stateTest, runSlots, writeTotals}
+use Rattle.rules.specs.Runs.{totalsLine}
+use Rattle.rules.specs.Answers.{lay, roomTest, writeTotals}
 use Rattle.rules.specs.declared.refusal.Refusal.{Refusal}
 use Rattle.rules.specs.declared.refusal.Refusal.the-variants.{BadLine, BadCores, BadTasks, BadRow, BadRepeat, Trailing, NoRoom, PastClock, BadState}
 use Rattle.reading_laws.proofs.Tests.{settle-taken}
+use Rattle.slot_laws.proofs.Answers.{well-first}
 use Rattle.capi.specs.Calls.{reply, replied, Filled, filled, sized, laid}
 use Rattle.promises.specs.Buffers.{Holds}
 use Rattle.promises.proofs.Holding.{lay-held}
@@ -53,27 +53,30 @@ pub laid-taken : (out : List ℕ) (place : ℕ) (txt : List ℕ) → place + len
 unfolding laid sized roomTest
 laid-taken out place txt room = rw (le-ltb (length out) (place + length txt) room)
 
+-- and only there
+pub laid-room : (out : List ℕ) (place : ℕ) (txt : List ℕ) {buffer : List ℕ} → settle (roomTest out place (length txt) ∷ []) (lay out place txt) ≡ taken buffer
+    → (place + length txt ≤ length out) × (lay out place txt ≡ buffer)
+unfolding roomTest
+laid-room out place txt {buffer} e =
+    let s = settle-taken (roomTest out place (length txt) ∷ []) (lay out place txt) buffer e in
+    (nltb→le (length out) (place + length txt) (and-left (not (ltb (length out) (place + length txt))) _ (s .0)), s .1)
+
 pub record Laid (out : List ℕ) (place : ℕ) (txt : List ℕ) (x : Filled) : Type 0 where
   pub room : place + length txt ≤ length out
   pub buffer : x .buffer ≡ lay out place txt
   pub size : x .size ≡ length txt
 
--- and only there
 pub taken-laid : (out : List ℕ) (place : ℕ) (txt : List ℕ) {x : Filled} → laid out place txt ≡ taken x → Laid out place txt x
-unfolding laid sized roomTest
-taken-laid out place txt {x} e = by-cases (settle (roomTest out place (length txt) ∷ []) (lay out place txt)) refl e
+unfolding laid sized
+taken-laid out place txt {x} e = by-answer (settle (roomTest out place (length txt) ∷ []) (lay out place txt)) refl e
   where
-    by-cases : (a : Answer (List ℕ)) → settle (roomTest out place (length txt) ∷ []) (lay out place txt) ≡ a → andThen a (λ buffer. taken (filled buffer (length txt))) ≡ taken x
+    by-answer : (a : Answer (List ℕ)) → settle (roomTest out place (length txt) ∷ []) (lay out place txt) ≡ a → andThen a (λ buffer. taken (filled buffer (length txt))) ≡ taken x
         → Laid out place txt x
-    by-cases (taken buffer) f g =
-        let s = settle-taken (roomTest out place (length txt) ∷ []) (lay out place txt) buffer f in
+    by-answer (taken buffer) f g =
+        let w = laid-room out place txt f in
         let same : filled buffer (length txt) ≡ x = cc in
-        record {
-          room = nltb→le (length out) (place + length txt) (and-left (not (ltb (length out) (place + length txt))) _ (s .0));
-          buffer = sym (ap (λ (y : Filled). y .buffer) same) ∙ sym (s .1);
-          size = sym (ap (λ (y : Filled). y .size) same);
-        }
-    by-cases (refused q l) f g = never cc
+        record { room = w .0; buffer = sym (ap (λ (y : Filled). y .buffer) same) ∙ sym (w .1); size = sym (ap (λ (y : Filled). y .size) same) }
+    by-answer (refused q l) f g = never cc
 
 -- it stands in the buffer then
 pub laid-holds : (out : List ℕ) (place : ℕ) (txt : List ℕ) {x : Filled} → laid out place txt ≡ taken x → Holds (x .buffer) place txt
@@ -81,40 +84,8 @@ laid-holds out place txt e =
     let w : Laid out place txt _ = taken-laid out place txt e in
     subst (λ (l : List ℕ). Holds l place txt) (sym (w .buffer)) (lay-held out place txt (w .room))
 
--- ---- what is asked of a well-formed state
-
-module _ (st : State) (ok : T (wellFormed st)) where
-  -- the test of its form is passed
-  pub well-first : {A : Type 0} (ts : List Test) (a : A) → settle (stateTest st ∷ ts) a ≡ settle ts a
-  unfolding stateTest
-  well-first ts a = rw (of-T (wellFormed st) ok)
-
-  -- the totals
-  pub totals-laid : (out : List ℕ) (place : ℕ) → sized (length (totalsLine st)) (writeTotals st out place) ≡ laid out place (totalsLine st)
-  unfolding laid writeTotals
-  totals-laid out place = ap (sized (length (totalsLine st))) (well-first (roomTest out place (length (totalsLine st)) ∷ []) (lay out place (totalsLine st)))
-
-  -- a run
-  module _ (count : ℕ) (out : List ℕ) (place : ℕ) where
-    abbrev tests : List Test
-    tests = test (ltb clockMax (st .clock + count)) PastClock ∷ roomTest out place (length (slotLines count st)) ∷ []
-
-    abbrev ranSo : Ran
-    ranSo = record { state = after count st; out = lay out place (slotLines count st) }
-
-    pub run-taken : st .clock + count ≤ clockMax → place + length (slotLines count st) ≤ length out → runSlots st count out place ≡ taken ranSo
-    unfolding runSlots roomTest
-    run-taken soon room =
-        well-first tests ranSo
-        ∙ rw (le-ltb clockMax (st .clock + count) soon, le-ltb (length out) (place + length (slotLines count st)) room)
-
-    pub taken-ran : {ran : Ran} → runSlots st count out place ≡ taken ran
-        → (st .clock + count ≤ clockMax) × (place + length (slotLines count st) ≤ length out) × (ran ≡ ranSo)
-    unfolding runSlots roomTest
-    taken-ran {ran} e =
-        let s = settle-taken tests ranSo ran (sym (well-first tests ranSo) ∙ e) in
-        let room = and-right (not (ltb clockMax (st .clock + count))) _ (s .0) in (
-          nltb→le clockMax (st .clock + count) (and-left (not (ltb clockMax (st .clock + count))) _ (s .0)),
-          nltb→le (length out) (place + length (slotLines count st)) (and-left (not (ltb (length out) (place + length (slotLines count st)))) _ room),
-          sym (s .1),
-        )
+-- the totals of a well-formed state are such a text
+pub totals-laid : (st : State) → T (wellFormed st) → (out : List ℕ) (place : ℕ) → sized (length (totalsLine st)) (writeTotals st out place) ≡ laid out place (totalsLine st)
+unfolding laid writeTotals
+totals-laid st ok out place =
+    ap (sized (length (totalsLine st))) (well-first st ok (roomTest out place (length (totalsLine st)) ∷ []) (lay out place (totalsLine st)))

@@ -16,13 +16,11 @@ use Rattle.rules.specs.Answers as Rules
 use Rattle.rules.specs.Answers.{lay, runSlots}
 use Rattle.slot_laws.proofs.After.{after-more, shows-more}
 use Rattle.slot_laws.proofs.Books.{run-kept}
+use Rattle.slot_laws.proofs.Answers.{taken-ran}
 use Rattle.slot_laws.proofs.Boundaries.{table-at, clock-at}
 use Rattle.promises.specs.Buffers.{framesAt, Holds}
-use Rattle.promises.specs.Frames.{Scheduled}
 use Rattle.promises.specs.Runs.{Way, Runs, none, more, framesOf, Exactly, Came}
 use Rattle.promises.proofs.Holding.{lay-held, held-frames}
-use Rattle.promises.proofs.Counting.{scheduled-counted}
-use Rattle.promises.proofs.Replies.{taken-ran}
 
 -- what one call does that starts at boundary b
 pub record Ran {S C : Type 0} (way : Way S C) (Says : ℕ → S → Type 0) (tbl : Table) (b : ℕ) (c : C) : Type 0 where
@@ -48,7 +46,7 @@ module _ {S C : Type 0} {way : Way S C} {Says : ℕ → S → Type 0} (tbl : Tab
       → (b + way .slots c ≤ clockMax → ran .state ≡ after (b + way .slots c) (fresh tbl) → Says (b + way .slots c) (way .to c))
       → Ran way Says tbl b c
   by-rules c b ok e lines says =
-      let w = taken-ran (after b (fresh tbl)) ok (way .slots c) (way .lent c) (way .place c) e in
+      let w = taken-ran (way .slots c) (way .lent c) (way .place c) (after b (fresh tbl)) ok e in
       let soon : b + way .slots c ≤ clockMax = omega (arith, w .0, clock-at tbl b) in
       record {
         next = says soon (ap (λ (x : Rules.Ran). x .state) (w .2) ∙ after-more b (way .slots c) (fresh tbl));
@@ -82,6 +80,4 @@ module _ {S C : Type 0} {way : Way S C} {Says : ℕ → S → Type 0} (tbl : Tab
         ∙ ap (map slotNumbers) (sym (shows-more b (way .slots c) (fresh tbl)))
 
     pub came : {end : S} {b : ℕ} (runs : Runs way start end b) → Came Says tbl runs
-    came runs =
-        let s : Scheduled tbl _ (framesOf (tbl .m) runs) = record { are = schedule runs } in
-        record { reached = reaches runs; exactly = exact runs; scheduled = s; counted = scheduled-counted s }
+    came runs = record { reached = reaches runs; exactly = exact runs; scheduled = record { are = schedule runs } }

@@ -2,14 +2,13 @@
 use Prim.Native.Nat.{ℕ, _+_, _-_, _*_, _≤_}
 use mathlib.Core.Path.{_≡_, sym, ap, _∙_}
 use mathlib.Core.List.{List}
-use mathlib.Core.Option.{Option, none, some}
 use native.Mathlib.Omega.{arith}
 use denote.Ref.{now}
 use lib.Dec.{T}
 use lib.ListN.{length, replicate, replicate-append-replicate, length-replicate}
 use Rattle.laws.proofs.Copying.{map-replicate}
 use Rattle.rules.specs.Limits.{tasksMax, clockMax}
-use Rattle.rules.specs.Refusals.{first, Answer, taken, answered}
+use Rattle.rules.specs.Refusals.{Answer, taken, settle}
 use Rattle.rules.specs.Tables as Rules
 use Rattle.rules.specs.Tables.{size, accepts, takeList}
 use Rattle.rules.specs.Files.{readFile}
@@ -19,10 +18,9 @@ use Rattle.rules.specs.States.{fresh}
 use Rattle.rules.specs.Forms.{wellFormed}
 use Rattle.rules.specs.Runs.{after}
 use Rattle.rules.specs.Answers.{Ran, runSlots}
-use Rattle.rules.specs.declared.refusal.Refusal.{Refusal}
 use Rattle.reading_laws.proofs.Tests.{accepts-iff}
 use Rattle.slot_laws.proofs.Forms.{accepted}
-use Rattle.slot_laws.proofs.Books.{run-formed}
+use Rattle.slot_laws.proofs.Books.{run-kept, run-formed}
 use Rattle.slot_laws.proofs.Boundaries.{table-at, clock-at}
 use Rattle.bound.specs.Demand3.{Demand3}
 use Rattle.bound.proofs.Demand3.{demand-3}
@@ -31,9 +29,10 @@ use Rattle.tables.specs.Views as Tables
 use Rattle.tables.specs.declared.table.Table.{Table}
 use Rattle.verdicts.specs.Structs.{structTests, judgementOf, verdictAnswer}
 use Rattle.verdicts.specs.declared.table.Judgement.{Judgement}
-use Rattle.verdicts.specs.declared.table.VerdictAnswer.the-variants.{Judged}
 use Rattle.machine.specs.Tables.{Opened}
-use Rattle.machine.specs.Views.{units, packed, pack}
+use Rattle.machine.specs.Views.{units, packed, view, pack}
+use Rattle.machine.proofs.Packing.{view-pack}
+use Rattle.machine.proofs.Packed.{kept-sized}
 use Rattle.machine.specs.Answers.{asked}
 use Rattle.machine.specs.declared.state.State.{State}
 use Rattle.machine.proofs.fresh.fresh.Reads as fresh-of
@@ -42,15 +41,16 @@ use Rattle.runs.specs.Answers.{RunEnd, runAnswer}
 use Rattle.runs.specs.declared.run.RunOutcome.the-variants.{Taken}
 use Rattle.runs.proofs.run.run.Reads as run-of
 use Rattle.runs.proofs.run.step.Reads as step-of
-use Rattle.reports.proofs.Taking as Taking
+use Rattle.reports.proofs.Taking as Taken
+use Rattle.reports.proofs.Heads.{judged-is}
 use Rattle.capi.proofs.Opening.{file-takes, list-takes, takes-startable}
 use Rattle.capi.proofs.Loading.{asked-packed}
 use Rattle.capi.proofs.Running.{of-taken}
 use Rattle.promises.specs.Runs.{Runs, Came}
 use Rattle.promises.specs.Calls.{Call}
-use Rattle.promises.specs.Structs.{Taking, by-file, by-list, AdmittedStruct, Reached, RunTaken, structs, Lossless, StructPromise}
-use Rattle.promises.proofs.Judged.{says-admitted}
-use Rattle.promises.proofs.Counting.{scheduled-on-time}
+use Rattle.promises.specs.Structs.{Taking, by-file, by-list, AdmittedStruct, Reached, RunTaken, structs, Lossless, StructAccount, StructsMean}
+use Rattle.promises.proofs.Verdicts.{says-admitted}
+use Rattle.promises.proofs.Counting.{scheduled-counted, scheduled-on-time}
 use Rattle.promises.proofs.Running as Running
 use Rattle.promises.proofs.Running.{came}
 
@@ -89,7 +89,7 @@ module _ {tbl : Rules.Table} (t : T (accepts tbl)) (r : Call run-of.Post) {b : �
       ap (λ (x : RunEnd). x .answer .outcome)
       (r .permitted
       ∙ ap (λ (s : State). runAnswer s count out place) (g .says)
-      ∙ Taking.run-taken from formed out place count (omega (arith, clock-at tbl b)) (rw m room))
+      ∙ Taken.run-taken from formed out place count (omega (arith, clock-at tbl b)) (rw m room))
 
   -- one that was taken leaves the state at the boundary after its slots, and their lines
   run-leaves : (told : r .result .outcome ≡ Taken) → Running.Ran structs (Reached tbl) tbl b (r, told)
@@ -121,9 +121,22 @@ unfolding after
 fresh-reached t f e = record { in-time = omega arith; says = f .permitted ∙ ap (λ (x : Table). pack (fresh (Tables.view x))) e }
 
 -- any table, admitted or not
-pub struct-came : {t : Table} → Taking t → (f : Call fresh-of.Post) → f .args .0 ≡ t → {end : State} {b : ℕ} (runs : Runs structs (f .result) end b)
-    → Came (Reached (Tables.view t)) (Tables.view t) runs
-struct-came {t} h f e runs = came (Tables.view t) (taking-accepted h) (run-step (taking-accepted h)) (fresh-reached t f e) runs
+module _ {t : Table} (h : Taking t) (f : Call fresh-of.Post) (e : f .args .0 ≡ t) {end : State} {b : ℕ} (runs : Runs structs (f .result) end b) where
+  abbrev tbl : Rules.Table
+  tbl = Tables.view t
+
+  ok : T (accepts tbl)
+  ok = taking-accepted h
+
+  structs-came : Came (Reached tbl) tbl runs
+  structs-came = came tbl ok (run-step ok) (fresh-reached t f e) runs
+
+  -- what the struct says
+  says-state : view end ≡ after b (fresh tbl)
+  says-state = ap view (structs-came .reached .says) ∙ view-pack (after b (fresh tbl)) (kept-sized (run-kept tbl ok b))
+
+  pub struct-account : StructAccount tbl runs
+  struct-account = record { came = structs-came; counted = rw says-state (scheduled-counted (structs-came .scheduled)) }
 
 -- ---- an admitted table
 
@@ -143,21 +156,21 @@ lossless {tbl} t u {b} g =
       no-drop = ap (λ (x : State). x .dropped) (g .says) ∙ ap (packed units) (d .no-drop) ∙ none-packed (size tbl) (accepted tbl t .tasks-high);
     }
 
--- a judgement that was given is the one that is defined
-by-tests : (o : Option Refusal) {d j : Judgement} → verdictAnswer (answered o d) ≡ Judged j → j ≡ d
-by-tests none e = cc
-by-tests (some x) e = cc
-
 judged-admitted : {t : Table} → AdmittedStruct t → T (admitted (Tables.view t))
 judged-admitted {t} a =
-    let given : a .judgement ≡ judgementOf (Tables.view (a .call .args .0)) = by-tests (first (structTests (a .call .args .0))) (sym (a .call .permitted) ∙ a .judged) in
-    says-admitted (Tables.view t)
-    (ap (λ (x : Table). verdictByte (verdict (Tables.view x))) (sym (a .of-it)) ∙ sym (ap (λ (x : Judgement). verdictByte (x .verdict)) given) ∙ ap verdictByte (a .says))
+    let given : a .judgement ≡ judgementOf (Tables.view t) =
+    judged-is t (taking-opened (a .taking)) (a .call .permitted ∙ ap (λ (x : Table). verdictAnswer (settle (structTests x) (judgementOf (Tables.view x)))) (a .of-it)) (a .judged)
+    in
+    says-admitted (Tables.view t) (sym (ap (λ (x : Judgement). verdictByte (x .verdict)) given) ∙ ap verdictByte (a .says))
 
-pub struct-means : {t : Table} → AdmittedStruct t → (f : Call fresh-of.Post) → f .args .0 ≡ t → {end : State} {b : ℕ} (runs : Runs structs (f .result) end b)
-    → StructPromise (Tables.view t) runs
-struct-means {t} a f e runs =
-    let ok : T (accepts (Tables.view t)) = taking-accepted (a .taking) in
+pub struct-means : StructsMean
+struct-means t f end b a e runs =
+    let w : Came (Reached (Tables.view t)) (Tables.view t) runs = structs-came (a .taking) f e runs in
     let u : T (admitted (Tables.view t)) = judged-admitted a in
-    let w : Came (Reached (Tables.view t)) (Tables.view t) runs = struct-came (a .taking) f e runs in
-    record { accepted = ok; admitted = u; came = w; on-time = scheduled-on-time (w .scheduled) ok u; lossless = lossless ok u (w .reached) }
+    record {
+      accepted = taking-accepted (a .taking);
+      admitted = u;
+      account = struct-account (a .taking) f e runs;
+      on-time = scheduled-on-time (w .scheduled) (taking-accepted (a .taking)) u;
+      lossless = lossless (taking-accepted (a .taking)) u (w .reached);
+    }

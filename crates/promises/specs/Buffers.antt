@@ -17,6 +17,13 @@ numbersOf (some a) = a .got
 unfoldable pub numbersAt : Shape → List ℕ → ℕ → List ℕ
 numbersAt sh out place = numbersOf (readFrame sh (drop place out))
 
+-- how long frames `11` and `14` are
+abbrev pub verdictLength : ℕ
+verdictLength = 15
+
+abbrev pub totalsLength : ℕ
+totalsLength = 51
+
 -- where frame j of m cores begins, counted from 0, if the first one begins at a place and each follows right after the last
 abbrev pub frameAt : ℕ → ℕ → ℕ → ℕ
 frameAt m place j = place + j * frameLength m
@@ -27,8 +34,8 @@ framesAt m out place count = map (λ j. numbersAt (Frames.slot m) out (frameAt m
 
 -- Of the numbers of a frame `13` of m cores: the tasks on cores 1 to m, then the moves and the misses.
 
-abbrev pub coresOf : ℕ → List ℕ → List ℕ
-coresOf m numbers = take m (drop 1 numbers)
+abbrev pub tasksOn : ℕ → List ℕ → List ℕ
+tasksOn m numbers = take m (drop 1 numbers)
 
 abbrev pub movesOf : ℕ → List ℕ → ℕ
 movesOf m numbers = at numbers (m + 2)
@@ -41,7 +48,7 @@ abbrev pub frameOf : List (List ℕ) → ℕ → List ℕ
 frameOf frames s = getD frames s []
 
 abbrev pub placing : ℕ → List (List ℕ) → ℕ → List ℕ
-placing m frames s = coresOf m (frameOf frames s)
+placing m frames s = tasksOn m (frameOf frames s)
 
 -- a text stands in the buffer, from a place on
 pub record Holds (out : List ℕ) (place : ℕ) (text : List ℕ) : Type 0 where

@@ -3,11 +3,12 @@ use Prim.Native.Nat.{ℕ, _+_, _*_, _≤_}
 use mathlib.Core.Path.{_≡_}
 use mathlib.Core.List.{List}
 use denote.Ref.{now}
+use lib.Dec.{T}
 use lib.ListN.{length, take}
 use lib.IntN.{ℤ}
 use Rattle.rules.specs.Limits.{clockMax}
-use Rattle.rules.specs.Refusals.{taken}
-use Rattle.rules.specs.Tables.{Table, takeList}
+use Rattle.rules.specs.Refusals.{Answer, taken}
+use Rattle.rules.specs.Tables.{Table, accepts, takeList}
 use Rattle.rules.specs.Frames as Frames
 use Rattle.rules.specs.Files.{readFile}
 use Rattle.rules.specs.States.{fresh}
@@ -47,6 +48,13 @@ pub record Held (tbl : Table) (b : ℕ) (bytes : List ℕ) : Type 0 where
   pub in-time : b ≤ clockMax
   pub says : bytes ≡ store (after b (fresh tbl))
 
+-- what it comes to: the reader's answer was taken, the table is accepted, and the bytes are those of its fresh state
+pub record Opened (answer : Answer Table) (bytes : List ℕ) : Type 0 where
+  pub tbl : Table
+  pub is : answer ≡ taken tbl
+  pub accepted : T (accepts tbl)
+  pub held : Held tbl 0 bytes
+
 -- ---- `zq_run`: state, count, out, at, size
 
 abbrev pub RunCall : Type 0
@@ -71,15 +79,12 @@ pub record TimeAndRoom (tbl : Table) (b : ℕ) (r : Call zq-run.Post) : Type 0 w
 
 -- ---- what is asked of some bytes, and the answer as it is read from what the call left
 
--- `zq_verdict`: state, out, at, size; the numbers of frame `11`, and those of frame `12` of n tasks right behind it
+-- `zq_verdict`: state, out, at, size; the numbers of frame `11`
 abbrev pub VerdictCall : List ℕ → Type 0
 VerdictCall bytes = (v : Call zq-verdict.Post) × (v .result ≡ 0) × (now (v .args .0) ≡ bytes)
 
 abbrev pub verdictRead : {bytes : List ℕ} → VerdictCall bytes → List ℕ
 verdictRead v = numbersAt Frames.verdict (now (v .0 .exits .1 .0)) (v .0 .args .1 .1 .0)
-
-abbrev pub orderRead : {bytes : List ℕ} → ℕ → VerdictCall bytes → List ℕ
-orderRead n v = numbersAt (Frames.order n) (now (v .0 .exits .1 .0)) (v .0 .args .1 .1 .0 + 15)
 
 -- `zq_totals`: state, out, at, size; the numbers of frame `14`
 abbrev pub TotalsCall : List ℕ → Type 0

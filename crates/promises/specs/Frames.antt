@@ -1,22 +1,25 @@
 -- What the frames of a table's run say, read as numbers: that they are those of its slots, what they add up to, and demand 3.
--- Work, moves, misses and dropped units are counted from the placings that the frames show, and from nothing else.
-use Prim.Native.Nat.{ℕ, suc, _*_, _≤_, _<_}
+-- Work, moves, misses and dropped units are counted from the placings that frames show.
+use Prim.Native.Nat.{ℕ, _+_, _*_, _≤_, _<_}
 use mathlib.Core.Path.{_≡_}
-use mathlib.Core.Bool.{_&&_}
 use mathlib.Core.List.{List, [], _∷_, map}
-use lib.Dec.{ltb}
 use lib.ListN.{take}
-use Rattle.laws.specs.Lists.{count, sum, numbers, each, at}
-use Rattle.rules.specs.Rows.{due}
+use Rattle.laws.specs.Lists.{sum, each, at}
 use Rattle.rules.specs.Repeat.{repeatLength}
-use Rattle.rules.specs.Tables.{Table, size, rowOf}
-use Rattle.rules.specs.Verdicts.{share, lights}
+use Rattle.rules.specs.Frames as Frames
+use Rattle.rules.specs.Tables.{Table, size}
+use Rattle.rules.specs.Verdicts.{sharesOf, order, lights}
 use Rattle.rules.specs.States.{State, fresh}
-use Rattle.rules.specs.Runs.{shows, slotNumbers}
-use Rattle.rules.specs.Counts.{workOf, workOfAll, movedTo, movesBefore, shortAt, droppedBy, missesBy}
-use Rattle.promises.specs.Buffers.{movesOf, missesOf, frameOf, placing}
+use Rattle.rules.specs.Runs.{verdictNumbers, shows, slotNumbers}
+use Rattle.rules.specs.Counts.{workOf, workOfAll, movesBefore, droppedBy, missesBy, missesAt, movesAt}
+use Rattle.promises.specs.Buffers.{verdictLength, numbersAt, movesOf, missesOf, frameOf, placing}
 
--- they are the frames of the first b slots of a table's run from the fresh state, in their order
+-- frames `11` and `12` that stand at a place are those of a table: verdict, number of heavy tasks and H; then the priority order
+pub record HeadOf (tbl : Table) (out : List ℕ) (place : ℕ) : Type 0 where
+  pub verdict : numbersAt Frames.verdict out place ≡ verdictNumbers tbl
+  pub priorities : numbersAt (Frames.order (size tbl)) out (place + verdictLength) ≡ order tbl
+
+-- frames `13` are those of the first b slots of a table's run from the fresh state, in their order
 pub record Scheduled (tbl : Table) (b : ℕ) (frames : List (List ℕ)) : Type 0 where
   pub are : frames ≡ map slotNumbers (shows b (fresh tbl))
 
@@ -26,10 +29,10 @@ pub record Counted (tbl : Table) (b : ℕ) (frames : List (List ℕ)) (st : Stat
   pub dropped : (i : ℕ) → 1 ≤ i → i ≤ size tbl → at (st .dropped) i ≡ droppedBy tbl (placing (tbl .m) frames) i b
   pub moves : st .moves ≡ movesBefore (tbl .m) (placing (tbl .m) frames) b
   pub misses : st .misses ≡ missesBy tbl (placing (tbl .m) frames) b
-  pub moves-shown : (s : ℕ) → s < b → movesOf (tbl .m) (frameOf frames s) ≡ count (movedTo (placing (tbl .m) frames) s) (numbers (tbl .m))
+  pub moves-shown : (s : ℕ) → s < b → movesOf (tbl .m) (frameOf frames s) ≡ movesAt (tbl .m) (placing (tbl .m) frames) s
   pub misses-shown : (s : ℕ) → s < b
       → missesOf (tbl .m) (frameOf frames s)
-      ≡ count (λ i. due (rowOf tbl i) (suc s) && ltb 0 (shortAt tbl (placing (tbl .m) frames) i (suc s))) (numbers (size tbl))
+      ≡ missesAt tbl (placing (tbl .m) frames) s
 
 -- the totals that frames add up to: moves, misses and dropped units
 abbrev pub totalsOf : Table → ℕ → List (List ℕ) → List ℕ
@@ -44,11 +47,12 @@ abbrev pub losslessOf : Table → ℕ → List (List ℕ) → List ℕ
 losslessOf tbl b frames = movesBefore (tbl .m) (placing (tbl .m) frames) b ∷ 0 ∷ 0 ∷ []
 
 -- demand 3
-pub record OnTime (tbl : Table) (b : ℕ) (frames : List (List ℕ)) : Type 0 where
-  -- no frame shows a miss
+pub record FramesOnTime (tbl : Table) (b : ℕ) (frames : List (List ℕ)) : Type 0 where
+  -- no frame shows a miss, and no job was given less than it asks for by its deadline
   pub none-missed : (s : ℕ) → s < b → missesOf (tbl .m) (frameOf frames s) ≡ 0
+  pub none-dropped : (u i : ℕ) → u ≤ b → 1 ≤ i → i ≤ size tbl → droppedBy tbl (placing (tbl .m) frames) i u ≡ 0
   -- at every boundary u up to b the first k light tasks in priority order, for every k, were given at least their shares of u
   -- slots: both sides are scaled by H
   pub lights-ahead : (u k : ℕ) → u ≤ b
-      → u * sum (map (λ i. share (repeatLength (tbl .rows)) (rowOf tbl i)) (take k (lights tbl)))
+      → u * sharesOf tbl (take k (lights tbl))
       ≤ repeatLength (tbl .rows) * workOfAll (placing (tbl .m) frames) (take k (lights tbl)) u

@@ -7,7 +7,7 @@ use Rattle.rules.specs.States.{fresh}
 use Rattle.rules.specs.Runs.{after, slotLines}
 use Rattle.rules.specs.Answers.{lay}
 use Rattle.promises.specs.Buffers.{framesAt}
-use Rattle.promises.specs.Frames.{Scheduled, Counted}
+use Rattle.promises.specs.Frames.{Scheduled}
 
 -- Of a call that runs slots: what it starts from, how many slots it runs, the buffer as it was and the place from which on the
 -- frames go into it; and what it leaves, the buffer and what the next call starts from.
@@ -44,5 +44,3 @@ pub record Came {S C : Type 0} {way : Way S C} (Says : ℕ → S → Type 0) (tb
   -- the buffers have the frames of those slots, and else what they had
   pub exactly : Exactly tbl runs
   pub scheduled : Scheduled tbl b (framesOf (tbl .m) runs)
-  -- all that the state counts is counted over the frames
-  pub counted : Counted tbl b (framesOf (tbl .m) runs) (after b (fresh tbl))

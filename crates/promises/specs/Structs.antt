@@ -10,6 +10,7 @@ use Rattle.rules.specs.Verdicts.{admitted}
 use Rattle.rules.specs.States.{fresh}
 use Rattle.rules.specs.Runs.{after}
 use Rattle.rules.specs.declared.verdict.Verdict.the-variants.{Admitted}
+use Rattle.tables.specs.Views as Tables
 use Rattle.tables.specs.declared.table.Table.{Table}
 use Rattle.tables.specs.declared.table.Outcome.the-variants as outcome
 use Rattle.tables.proofs.file.read_file.Reads as read-file
@@ -17,11 +18,12 @@ use Rattle.tables.proofs.list.take_list.Reads as take-list
 use Rattle.verdicts.specs.declared.table.Judgement.{Judgement}
 use Rattle.verdicts.specs.declared.table.VerdictAnswer.the-variants.{Judged}
 use Rattle.verdicts.proofs.table.verdict.Reads as verdict-of
-use Rattle.machine.specs.Views.{units, pack}
+use Rattle.machine.specs.Views.{units, view, pack}
 use Rattle.machine.specs.declared.state.State.{State}
+use Rattle.machine.proofs.fresh.fresh.Reads as fresh-of
 use Rattle.runs.specs.declared.run.RunOutcome.the-variants.{Taken}
 use Rattle.runs.proofs.run.run.Reads as run-of
-use Rattle.promises.specs.Frames.{OnTime}
+use Rattle.promises.specs.Frames.{Counted, FramesOnTime}
 use Rattle.promises.specs.Runs.{Way, Runs, framesOf, Came}
 use Rattle.promises.specs.Calls.{Call}
 
@@ -64,10 +66,21 @@ pub record Lossless (s : State) : Type 0 where
   pub no-miss : s .misses ≡ 0
   pub no-drop : s .dropped ≡ replicate tasksMax (units 0)
 
--- what the runs of an admitted table come to that begin at what `fresh` returned
+-- what the runs of any table come to that begin at what `fresh` returned
+pub record StructAccount (tbl : Rules.Table) {start end : State} {b : ℕ} (runs : Runs structs start end b) : Type 0 where
+  pub came : Came (Reached tbl) tbl runs
+  pub counted : Counted tbl b (framesOf (tbl .m) runs) (view end)
+
+-- and those of an admitted one
 pub record StructPromise (tbl : Rules.Table) {start end : State} {b : ℕ} (runs : Runs structs start end b) : Type 0 where
   pub accepted : T (Rules.accepts tbl)
   pub admitted : T (admitted tbl)
-  pub came : Came (Reached tbl) tbl runs
-  pub on-time : OnTime tbl b (framesOf (tbl .m) runs)
+  pub account : StructAccount tbl runs
+  pub on-time : FramesOnTime tbl b (framesOf (tbl .m) runs)
   pub lossless : Lossless end
+
+-- what is proved
+abbrev pub StructsMean : Type 0
+StructsMean =
+    (t : Table) (f : Call fresh-of.Post) (end : State) (b : ℕ) → AdmittedStruct t → f .args .0 ≡ t
+    → (runs : Runs structs (f .result) end b) → StructPromise (Tables.view t) runs

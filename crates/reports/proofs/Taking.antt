@@ -3,17 +3,17 @@ use Prim.Native.Nat.{ℕ, _+_, _*_, _≤_}
 use mathlib.Core.Path.{_≡_, ap, _∙_}
 use mathlib.Core.List.{List, [], _∷_}
 use borrow.Author.Tests.{le-ltb}
-use lib.Dec.{T, ltb}
+use lib.Dec.{T}
 use lib.ListN.{length}
 use Rattle.rules.specs.Limits.{clockMax}
-use Rattle.rules.specs.Refusals.{Test, test}
+use Rattle.rules.specs.Refusals.{Test}
 use Rattle.rules.specs.States as States
 use Rattle.rules.specs.Forms.{wellFormed}
 use Rattle.rules.specs.Runs.{after, slotLines, totalsLine}
-use Rattle.rules.specs.Answers.{Ran, lay, roomTest, runSlots, writeTotals}
-use Rattle.rules.specs.declared.refusal.Refusal.the-variants.{PastClock}
+use Rattle.rules.specs.Answers.{lay, roomTest, runSlots, writeTotals}
 use Rattle.slot_laws.proofs.Forms.{formed-kept}
 use Rattle.slot_laws.proofs.Lengths.{length-slotLines, length-totalsLine}
+use Rattle.slot_laws.proofs.Answers.{runTests, ranSo}
 use Rattle.tables.specs.Writes.{made, wrote}
 use Rattle.tables.specs.declared.write.WriteAnswer.the-variants.{Written}
 use Rattle.machine.specs.Views.{view, pack}
@@ -29,19 +29,13 @@ module _ (st : States.State) (ok : T (wellFormed st)) (out : List ℕ) (place : 
   says : view (pack st) ≡ st
   says = view-pack st (kept-sized (formed-kept st ok))
 
-  -- a run: the tests after that of the form, and what is given where all are passed
+  -- a run
   module _ (count : ℕ) where
-    abbrev tests : States.State → List Test
-    tests x = test (ltb clockMax (x .clock + count)) PastClock ∷ roomTest out place (length (slotLines count x)) ∷ []
-
-    abbrev ran : States.State → Ran
-    ran x = record { state = after count x; out = lay out place (slotLines count x) }
-
     pub run-taken : st .clock + count ≤ clockMax → place + count * frameLength (st .table .m) ≤ length out
         → runAnswer (pack st) count out place ≡ runEnd (record { outcome = Taken; state = pack (after count st) }) (lay out place (slotLines count st))
     unfolding runAnswer runSlots roomTest
     run-taken soon room =
-        ap (ended (pack st) out) (asked-well (pack st) tests ran (struct-formed st ok))
+        ap (ended (pack st) out) (asked-well (pack st) (runTests count out place) (ranSo count out place) (struct-formed st ok))
         ∙ rw (
           says,
           le-ltb clockMax (st .clock + count) soon,

@@ -40,9 +40,13 @@ movedTo run s k =
     let i : ℕ = at (run s) k in
     ltb 0 i && ltb 0 (lastCore run i s) && not (eqb (lastCore run i s) k)
 
--- the pairs of a slot before b and a core from 1 to m whose task last ran on another core
+-- the moves in slot s: the cores from 1 to m whose task last ran on another core
+abbrev pub movesAt : ℕ → (ℕ → List ℕ) → ℕ → ℕ
+movesAt m run s = count (movedTo run s) (numbers m)
+
+-- the pairs of a slot before b and such a core
 unfoldable pub movesBefore : ℕ → (ℕ → List ℕ) → ℕ → ℕ
-movesBefore m run b = sumBefore b (λ s. count (movedTo run s) (numbers m))
+movesBefore m run b = sumBefore b (λ s. movesAt m run s)
 
 -- what the job of task i with its deadline at boundary d was not given, between its release and d
 unfoldable pub shortAt : Table → (ℕ → List ℕ) → ℕ → ℕ → ℕ
@@ -54,7 +58,10 @@ shortAt tbl run i d =
 unfoldable pub droppedBy : Table → (ℕ → List ℕ) → ℕ → ℕ → ℕ
 droppedBy tbl run i b = sumBefore b (λ s. cond (due (rowOf tbl i) (suc s)) (shortAt tbl run i (suc s)) 0)
 
+-- the misses at the end of slot s: the tasks whose job with its deadline there was not given all that it asks for
+abbrev pub missesAt : Table → (ℕ → List ℕ) → ℕ → ℕ
+missesAt tbl run s = count (λ i. due (rowOf tbl i) (suc s) && ltb 0 (shortAt tbl run i (suc s))) (numbers (size tbl))
+
 -- the misses at the boundaries 1 to b, one for each task and boundary
 unfoldable pub missesBy : Table → (ℕ → List ℕ) → ℕ → ℕ
-missesBy tbl run b =
-    sumBefore b (λ s. count (λ i. due (rowOf tbl i) (suc s) && ltb 0 (shortAt tbl run i (suc s))) (numbers (size tbl)))
+missesBy tbl run b = sumBefore b (λ s. missesAt tbl run s)

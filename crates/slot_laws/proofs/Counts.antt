@@ -1,18 +1,15 @@
 -- What the slots of a table's run show, and the total of its dropped units, read off the placings alone.
-use Prim.Native.Nat.{ℕ, suc}
+use Prim.Native.Nat.{ℕ}
 use mathlib.Core.Path.{_≡_, sym, ap, _∙_}
-use mathlib.Core.Bool.{_&&_}
 use mathlib.Core.List.{map}
-use lib.Dec.{ltb}
-use Rattle.laws.specs.Lists.{count, sum, from, numbers, each}
+use Rattle.laws.specs.Lists.{sum, from, each}
 use Rattle.laws.proofs.Each.{each-at, each-cong}
-use Rattle.rules.specs.Rows.{due}
-use Rattle.rules.specs.Tables.{Table, size, rowOf}
+use Rattle.rules.specs.Tables.{Table, size}
 use Rattle.rules.specs.Verdicts.{order}
 use Rattle.rules.specs.States.{fresh}
 use Rattle.rules.specs.Slots.{Shown, slot}
 use Rattle.rules.specs.Runs.{after, shows}
-use Rattle.rules.specs.Counts.{coresIn, movedTo, shortAt, droppedBy}
+use Rattle.rules.specs.Counts.{coresIn, droppedBy, missesAt, movesAt}
 use Rattle.slot_laws.proofs.After.{shows-each}
 use Rattle.slot_laws.proofs.Given.{own-run, dropped-length-with}
 use Rattle.slot_laws.proofs.Boundaries.{shown-slot}
@@ -25,8 +22,8 @@ shownIn tbl s =
     record {
       slot = s;
       cores = coresIn tbl s;
-      moves = count (movedTo (coresIn tbl) s) (numbers (tbl .m));
-      misses = count (λ i. due (rowOf tbl i) (suc s) && ltb 0 (shortAt tbl (coresIn tbl) i (suc s))) (numbers (size tbl));
+      moves = movesAt (tbl .m) (coresIn tbl) s;
+      misses = missesAt tbl (coresIn tbl) s;
     }
 
 -- a slot of a table's run shows just that

@@ -14,3 +14,4 @@ pub mod MissCounts
 pub mod Counts
 pub mod SameSlots
 pub mod Fitting
+pub mod Answers

@@ -9,7 +9,7 @@ use native.Mathlib.Decide.{le-ind}
 use native.Mathlib.Omega.{arith}
 use borrow.Author.Tests.{eqb-true, eq-eqb, ne-eqb}
 use lib.Dec.{eqb, ltb}
-use Rattle.laws.specs.Lists.{count, numbers, at}
+use Rattle.laws.specs.Lists.{at}
 use Rattle.laws.proofs.Tests.{decide}
 use Rattle.laws.proofs.Each.{at-replicate, count-cong}
 use Rattle.laws.proofs.Periods.{since, GoesOn, tick}
@@ -18,7 +18,7 @@ use Rattle.rules.specs.Tables.{Table, size, rowOf}
 use Rattle.rules.specs.States.{fresh}
 use Rattle.rules.specs.Slots.{given, missed, slot}
 use Rattle.rules.specs.Runs.{after}
-use Rattle.rules.specs.Counts.{sumBefore, coresIn, workOf, shortAt, droppedBy, missesBy}
+use Rattle.rules.specs.Counts.{sumBefore, coresIn, workOf, shortAt, droppedBy, missesBy, missesAt}
 use Rattle.rules.specs.Verdicts.{order}
 use Rattle.rules.specs.Obeys.{slotWith, afterWith}
 use Rattle.slot_laws.proofs.Given.{stateWith, readyWith, workedWith, ready-at-with, worked-at-with, shown-misses-with, next-left-with, next-dropped-with, next-misses-with, own-run, own-slot}
@@ -102,7 +102,7 @@ module _ (tbl : Table) (ranks : List ℕ) (run : ℕ → List ℕ) where
 
     -- the misses that a slot shows are the tasks whose job was not given all that it asks for
     pub misses-shown-with : slotWith (stateWith tbl ranks run b) (run b) .shown .misses
-        ≡ count (λ i. due (rowOf tbl i) (suc b) && ltb 0 (shortAt tbl run i (suc b))) (numbers (size tbl))
+        ≡ missesAt tbl run b
     misses-shown-with = shown-misses-with tbl ranks run b ∙ count-cong (size tbl) (missed tbl b (workedWith tbl ranks run b)) short missed-short
 
   -- the misses of a run are the pairs of a task and a boundary at which a job of it was not given all that it asks for
@@ -120,7 +120,7 @@ module _ (tbl : Table) where
   pub dropped-counted : (i : ℕ) → 1 ≤ i → i ≤ size tbl → (b : ℕ) → at (after b (fresh tbl) .dropped) i ≡ droppedBy tbl (coresIn tbl) i b
   dropped-counted i low high b = rw (own-run tbl b) (dropped-counted-with tbl (order tbl) (coresIn tbl) i low high b (own-modest b))
 
-  pub misses-shown : (b : ℕ) → slot (after b (fresh tbl)) .shown .misses ≡ count (λ i. due (rowOf tbl i) (suc b) && ltb 0 (shortAt tbl (coresIn tbl) i (suc b))) (numbers (size tbl))
+  pub misses-shown : (b : ℕ) → slot (after b (fresh tbl)) .shown .misses ≡ missesAt tbl (coresIn tbl) b
   misses-shown b = rw (own-slot tbl b) (misses-shown-with tbl (order tbl) (coresIn tbl) b (own-modest (suc b)))
 
   pub misses-counted : (b : ℕ) → after b (fresh tbl) .misses ≡ missesBy tbl (coresIn tbl) b

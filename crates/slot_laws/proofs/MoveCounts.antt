@@ -5,7 +5,7 @@ use mathlib.Core.Bool.{Bool, not, _&&_, and-assoc}
 use mathlib.Core.List.{List}
 use native.Mathlib.Nat.{le-refl, le-step}
 use lib.Dec.{eqb, ltb}
-use Rattle.laws.specs.Lists.{count, numbers, at, position}
+use Rattle.laws.specs.Lists.{at, position}
 use Rattle.laws.proofs.Each.{at-replicate, count-cong}
 use Rattle.laws.proofs.Sums.{count-values}
 use Rattle.laws.proofs.Tests.{eqb-sym}
@@ -13,7 +13,7 @@ use Rattle.rules.specs.Tables.{Table, size}
 use Rattle.rules.specs.States.{fresh}
 use Rattle.rules.specs.Slots.{placed, moved, slot}
 use Rattle.rules.specs.Runs.{after}
-use Rattle.rules.specs.Counts.{sumBefore, coresIn, lastCore, movedTo, movesBefore}
+use Rattle.rules.specs.Counts.{sumBefore, coresIn, lastCore, movedTo, movesBefore, movesAt}
 use Rattle.rules.specs.Verdicts.{order}
 use Rattle.rules.specs.Obeys.{slotWith, afterWith}
 use Rattle.slot_laws.proofs.Given.{stateWith, shown-moves-with, next-last-with, next-moves-with, own-run, own-slot}
@@ -45,7 +45,7 @@ module _ (tbl : Table) (ranks : List ℕ) (run : ℕ → List ℕ) where
     moved-to k = sym (and-assoc (ltb 0 (at (run b) k)) _ _)
 
     -- the moves that a slot shows are the cores whose task last ran on another core
-    pub moves-shown-with : Fair (tbl .m) (size tbl) (run b) → slotWith (stateWith tbl ranks run b) (run b) .shown .moves ≡ count (movedTo run b) (numbers (tbl .m))
+    pub moves-shown-with : Fair (tbl .m) (size tbl) (run b) → slotWith (stateWith tbl ranks run b) (run b) .shown .moves ≡ movesAt (tbl .m) run b
     moves-shown-with f =
         shown-moves-with tbl ranks run b
         ∙ count-cong (size tbl) _ _ moved-from
@@ -62,7 +62,7 @@ module _ (tbl : Table) (ranks : List ℕ) (run : ℕ → List ℕ) where
 -- ---- a table's own run
 
 module _ (tbl : Table) where
-  pub moves-shown : (b : ℕ) → slot (after b (fresh tbl)) .shown .moves ≡ count (movedTo (coresIn tbl) b) (numbers (tbl .m))
+  pub moves-shown : (b : ℕ) → slot (after b (fresh tbl)) .shown .moves ≡ movesAt (tbl .m) (coresIn tbl) b
   moves-shown b = rw (own-slot tbl b) (moves-shown-with tbl (order tbl) (coresIn tbl) b (own-fair tbl (suc b) b (le-refl (suc b))))
 
   pub moves-counted : (b : ℕ) → after b (fresh tbl) .moves ≡ movesBefore (tbl .m) (coresIn tbl) b

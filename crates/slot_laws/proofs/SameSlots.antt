@@ -1,15 +1,12 @@
 -- Counts over the slots before a boundary go by the placings of those slots alone.
 use Prim.Native.Nat.{ℕ, zero, suc, _-_, _≤_, _<_}
 use mathlib.Core.Path.{_≡_, refl}
-use mathlib.Core.Bool.{_&&_}
 use mathlib.Core.List.{List}
 use native.Mathlib.Nat.{le-refl, le-step, le-of-suc-le, le-trans, sub-le}
-use lib.Dec.{ltb}
-use Rattle.laws.specs.Lists.{count, numbers, at}
+use Rattle.laws.specs.Lists.{at}
 use Rattle.laws.proofs.Each.{count-cong}
-use Rattle.rules.specs.Rows.{due}
 use Rattle.rules.specs.Tables.{Table, size, rowOf}
-use Rattle.rules.specs.Counts.{sumBefore, workOf, workOfAll, lastCore, movedTo, movesBefore, shortAt, droppedBy, missesBy}
+use Rattle.rules.specs.Counts.{sumBefore, workOf, workOfAll, lastCore, movedTo, movesBefore, shortAt, droppedBy, missesBy, missesAt, movesAt}
 
 -- sums of the same terms
 sum-same : (u : ℕ) (f g : ℕ → ℕ) → ((s : ℕ) → s < u → f s ≡ g s) → sumBefore u f ≡ sumBefore u g
@@ -34,7 +31,7 @@ module _ (run other : ℕ → List ℕ) (b : ℕ) (same : (s : ℕ) → s < b �
   last-same i zero h = refl
   last-same i (suc s) h = rw (same s h, last-same i s (le-of-suc-le h))
 
-  pub moved-same : (m s : ℕ) → s < b → count (movedTo run s) (numbers m) ≡ count (movedTo other s) (numbers m)
+  pub moved-same : (m s : ℕ) → s < b → movesAt m run s ≡ movesAt m other s
   unfolding movedTo
   moved-same m s h = count-cong m _ _ (λ k low high. rw (same s h, last-same (at (other s) k) s (le-of-suc-le h)))
 
@@ -49,8 +46,8 @@ module _ (run other : ℕ → List ℕ) (b : ℕ) (same : (s : ℕ) → s < b �
     short-same i d h = rw (work-same i d h, work-same i (d - rowOf tbl i .t) (le-trans (sub-le d _) h))
 
     pub missed-same : (s : ℕ) → s < b
-        → count (λ i. due (rowOf tbl i) (suc s) && ltb 0 (shortAt tbl run i (suc s))) (numbers (size tbl))
-        ≡ count (λ i. due (rowOf tbl i) (suc s) && ltb 0 (shortAt tbl other i (suc s))) (numbers (size tbl))
+        → missesAt tbl run s
+        ≡ missesAt tbl other s
     missed-same s h = count-cong (size tbl) _ _ (λ i low high. rw (short-same i (suc s) h))
 
     pub misses-same : (u : ℕ) → u ≤ b → missesBy tbl run u ≡ missesBy tbl other u
