@@ -22,10 +22,6 @@ tbl = record { m = 2; rows = record { c = 1; t = 2 } ∷ record { c = 1; t = 2 }
 abbrev ranks : List ℕ
 ranks = 2 ∷ 1 ∷ []
 
--- two numbers are the same
-abbrev Same : ℕ → ℕ → Type 0
-Same a b = a ≡ b
-
 abbrev run : ℕ → List ℕ
 run zero = 2 ∷ 1 ∷ []
 run (suc s) = 0 ∷ 0 ∷ []
@@ -33,7 +29,7 @@ run (suc s) = 0 ∷ 0 ∷ []
 -- the table's own order is another
 pub rival-differs : order tbl ≡ ranks → ⊥
 unfolding heavy heavyAt fraction light insert byPeriod order
-rival-differs e = let first : Same 1 2 = ap (λ (l : List ℕ). at l 1) e in omega arith
+rival-differs e = let first : _≡_ {A = ℕ} 1 2 = ap (λ (l : List ℕ). at l 1) e in omega arith
 
 by-priority : Priority tbl ranks
 unfolding heavy heavyAt fraction

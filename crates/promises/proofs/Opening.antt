@@ -21,7 +21,7 @@ use Rattle.capi.specs.Calls.{Read, Filled, filled, openTable, openFile, openLis
 use Rattle.capi.proofs.Opening.{file-takes, list-takes}
 use Rattle.capi.proofs.table.zq_open.Reads as zq-open
 use Rattle.capi.proofs.table.zq_open_list.Reads as zq-open-list
-use Rattle.promises.specs.Calls.{Call, Opening, by-file, by-list, Held, Opened}
+use Rattle.promises.specs.Calls.{Call, Opening, by-file, by-list, Held, OpenedAs}
 use Rattle.promises.proofs.Replies.{zero-taken, taken-zero, laid-taken, Laid, taken-laid}
 
 fresh-long : (tbl : Table) → length (store (fresh tbl)) ≡ lengthOf (size tbl)
@@ -54,7 +54,7 @@ fresh-held state a {tbl} {x} e f =
       says = ap (λ (l : List ℕ). take (x .size) l) (w .buffer) ∙ ap (λ (k : ℕ). take k (lay state 0 (store (fresh tbl)))) (w .size) ∙ lay-holds state 0 (store (fresh tbl)) (w .room);
     }
 
-opened-by : (state : List ℕ) (a : Answer Table) → ((tbl : Table) → a ≡ taken tbl → T (accepts tbl)) → {x : Filled} → openedBy state a ≡ taken x → Opened a (take (x .size) (x .buffer))
+opened-by : (state : List ℕ) (a : Answer Table) → ((tbl : Table) → a ≡ taken tbl → T (accepts tbl)) → {x : Filled} → openedBy state a ≡ taken x → OpenedAs a (take (x .size) (x .buffer))
 opened-by state a takes e =
     let w = was-taken state a e in
     record { tbl = w .0; is = w .1; accepted = takes (w .0) (w .1); held = fresh-held state a (w .1) e }
@@ -73,7 +73,7 @@ module _ (o : Call zq-open.Post) where
   file-answer zero = zero-taken _ (openFile file file-state) (ap (λ (x : Read). x .answer) (o .permitted)) zero
 
   -- a file that is opened was taken, and the bytes are those of its table's fresh state
-  pub file-opened : o .result ≡ 0 → Opened (readFile (now (o .args .0))) (take (now (o .exits .1 .1 .0)) (now (o .exits .1 .0)))
+  pub file-opened : o .result ≡ 0 → OpenedAs (readFile (now (o .args .0))) (take (now (o .exits .1 .1 .0)) (now (o .exits .1 .0)))
   file-opened zero = opened-by file-state (readFile file) (file-takes file) (file-answer zero)
 
   -- and one that is taken is opened where there is room for its state
@@ -95,7 +95,7 @@ module _ (o : Call zq-open-list.Post) where
   unfolding openList
   list-answer zero = zero-taken _ (openList (o .args .0) (listRows (now (o .args .1 .0))) list-state) (o .permitted) zero
 
-  pub list-opened : o .result ≡ 0 → Opened (takeList (o .args .0) (listRows (now (o .args .1 .0)))) (take (now (o .exits .1 .1 .1 .0)) (now (o .exits .1 .1 .0)))
+  pub list-opened : o .result ≡ 0 → OpenedAs (takeList (o .args .0) (listRows (now (o .args .1 .0)))) (take (now (o .exits .1 .1 .1 .0)) (now (o .exits .1 .1 .0)))
   list-opened zero = opened-by list-state list (list-takes (o .args .0) (listRows (now (o .args .1 .0)))) (list-answer zero)
 
   pub list-opens : {tbl : Table} → takeList (o .args .0) (listRows (now (o .args .1 .0))) ≡ taken tbl → lengthOf (size tbl) ≤ length list-state → o .result ≡ 0

@@ -49,7 +49,7 @@ pub record Held (tbl : Table) (b : ℕ) (bytes : List ℕ) : Type 0 where
   pub says : bytes ≡ store (after b (fresh tbl))
 
 -- what it comes to: the reader's answer was taken, the table is accepted, and the bytes are those of its fresh state
-pub record Opened (answer : Answer Table) (bytes : List ℕ) : Type 0 where
+pub record OpenedAs (answer : Answer Table) (bytes : List ℕ) : Type 0 where
   pub tbl : Table
   pub is : answer ≡ taken tbl
   pub accepted : T (accepts tbl)
