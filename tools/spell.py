@@ -83,11 +83,11 @@ def main():
     taken = {b for a, b in turned.items() if "-" not in a}
     turned |= {a: b + "_lem" for a, b in turned.items() if "-" in a and b in taken}
     lemmas = {n for n in names if n in taken}
-    made = dict(turned)
+    outside = dict(turned)
     turned |= {n: n + "_lem" for n in lemmas}
 
     def new_word(word, only_declared):
-        if word in (made if only_declared else turned):
+        if word in (outside if only_declared else turned):
             return turned[word]
         if not only_declared and "-" not in word and word[0].islower() and HUMP.search(word):
             return plain(word)

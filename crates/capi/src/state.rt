@@ -1,7 +1,7 @@
 // Stored states: run, and asked for the totals and for a task's lead. Bytes that are no state are loaded as the empty state, and
 // whatever is asked of that is refused with 9, as it is to be of the bytes.
 ghost use Rattle.std.specs.Prelude.{◌≡◌};
-ghost use Rattle.capi.specs.Calls.{reply, replied, filled, run as ranWith, runStored, giveTotals, giveLead};
+ghost use Rattle.capi.specs.Calls.{reply, replied, filled, run as ranWith, run_stored, give_totals, give_lead};
 
 use crate::answer::{number_of, settle};
 use machine::lead::LeadAnswer;
@@ -20,7 +20,7 @@ pub extern "C" fn zq_run(
     at: usize,
     size: &mut usize,
 ) -> u32
-    ensures { reply result (ranWith state.new out.new size.new) ≡ replied (ranWith state.old out.old size.old) (runStored state.old count out.old at) }
+    ensures { reply result (ranWith state.new out.new size.new) ≡ replied (ranWith state.old out.old size.old) (run_stored state.old count out.old at) }
 {
     let s = load(state).state;
     let ran = run(s, count, out, at);
@@ -39,7 +39,7 @@ pub extern "C" fn zq_run(
 // Writes frame `14` of a state, from place `at` on.
 #[unsafe(no_mangle)]
 pub extern "C" fn zq_totals(state: &[u8], out: &mut [u8], at: usize, size: &mut usize) -> u32
-    ensures { reply result (filled out.new size.new) ≡ replied (filled out.old size.old) (giveTotals state.now out.old at) }
+    ensures { reply result (filled out.new size.new) ≡ replied (filled out.old size.old) (give_totals state.now out.old at) }
 {
     let s = load(state).state;
     settle(write_totals(s, out, at), size)
@@ -48,7 +48,7 @@ pub extern "C" fn zq_totals(state: &[u8], out: &mut [u8], at: usize, size: &mut 
 // The lead of a task becomes `lead`.
 #[unsafe(no_mangle)]
 pub extern "C" fn zq_lead(state: &[u8], task: u32, lead: &mut i64) -> u32
-    ensures { reply result lead.new ≡ replied lead.old (giveLead state.now task) }
+    ensures { reply result lead.new ≡ replied lead.old (give_lead state.now task) }
 {
     let s = load(state).state;
     let answer = machine::lead::lead(s, task);

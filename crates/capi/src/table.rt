@@ -1,9 +1,9 @@
 // Tables: opened as a stored state, from a file or a list of rows, and written out as a file.
 ghost use Rattle.std.specs.Prelude.{◌≡◌};
-ghost use Rattle.tables.specs.Lists.{listRows};
+ghost use Rattle.tables.specs.Lists.{list_rows};
 ghost use Rattle.tables.specs.Writes.{made};
-ghost use Rattle.capi.specs.Calls.{reply, replied, filled, openFile, openList, writeRows, read, opened};
-ghost use Rattle.capi.specs.Answers.{lineIn, Startable, fresh_of};
+ghost use Rattle.capi.specs.Calls.{reply, replied, filled, open_file, open_list, write_rows, read, opened};
+ghost use Rattle.capi.specs.Answers.{line_in, Startable, fresh_of};
 
 use crate::answer::settle;
 use machine::fresh::fresh;
@@ -15,7 +15,7 @@ use tables::write::{WriteAnswer, write_list};
 
 // The line of a refusal, 0 where a table is taken.
 fn line_of(o: Outcome) -> u32
-    ensures { result ≡ lineIn o }
+    ensures { result ≡ line_in o }
 {
     match o {
         Outcome::Taken => 0,
@@ -40,7 +40,7 @@ fn open_table(taken: TableAnswer, state: &mut [u8]) -> WriteAnswer
 // refusal of the file, else 0.
 #[unsafe(no_mangle)]
 pub extern "C" fn zq_open(file: &[u8], state: &mut [u8], size: &mut usize, line: &mut u32) -> u32
-    ensures { read (reply result (filled state.new size.new)) line.new ≡ opened (filled state.old size.old) (openFile file.now state.old) }
+    ensures { read (reply result (filled state.new size.new)) line.new ≡ opened (filled state.old size.old) (open_file file.now state.old) }
 {
     let taken = read_file(file);
     let outcome = taken.outcome;
@@ -51,7 +51,7 @@ pub extern "C" fn zq_open(file: &[u8], state: &mut [u8], size: &mut usize, line:
 // Opens a list of rows, each a C and a T, on m cores.
 #[unsafe(no_mangle)]
 pub extern "C" fn zq_open_list(m: u32, rows: &[[u32; 2]], state: &mut [u8], size: &mut usize) -> u32
-    ensures { reply result (filled state.new size.new) ≡ replied (filled state.old size.old) (openList m (listRows rows.now) state.old) }
+    ensures { reply result (filled state.new size.new) ≡ replied (filled state.old size.old) (open_list m (list_rows rows.now) state.old) }
 {
     settle(open_table(take_list(m, rows), state), size)
 }
@@ -65,7 +65,7 @@ pub extern "C" fn zq_write_list(
     at: usize,
     size: &mut usize,
 ) -> u32
-    ensures { reply result (filled out.new size.new) ≡ replied (filled out.old size.old) (writeRows m (listRows rows.now) out.old at) }
+    ensures { reply result (filled out.new size.new) ≡ replied (filled out.old size.old) (write_rows m (list_rows rows.now) out.old at) }
 {
     settle(write_list(m, rows, out, at), size)
 }

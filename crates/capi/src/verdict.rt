@@ -1,10 +1,10 @@
 // Verdict and order of a stored state's table.
 ghost use Rattle.std.specs.Prelude.{◌≡◌};
 ghost use Rattle.tables.specs.Views.{view};
-ghost use Rattle.tables.specs.Writes.{made, wroteText};
+ghost use Rattle.tables.specs.Writes.{made, wrote_text};
 ghost use Rattle.machine.specs.Tables.{Opened};
 ghost use Rattle.reports.specs.Heads.{head};
-ghost use Rattle.capi.specs.Calls.{reply, replied, filled, giveVerdict};
+ghost use Rattle.capi.specs.Calls.{reply, replied, filled, give_verdict};
 ghost use Rattle.capi.specs.Answers.{Judgeable, head_of};
 
 use crate::answer::settle;
@@ -17,7 +17,7 @@ use tables::write::WriteAnswer;
 // Both frames of a table, from a place of the buffer on.
 fn write_head_at(t: Table, out: &mut [u8], at: usize) -> WriteAnswer
     requires { Opened t }
-    ensures { made result out.new ≡ wroteText out.old at (head (view t)) }
+    ensures { made result out.new ≡ wrote_text out.old at (head (view t)) }
 {
     let size = head_length(t);
     if out.len() < at {
@@ -47,7 +47,7 @@ fn judge(loaded: StateAnswer, out: &mut [u8], at: usize) -> WriteAnswer
 // Writes frames `11` and `12` of a state's table, from place `at` on.
 #[unsafe(no_mangle)]
 pub extern "C" fn zq_verdict(state: &[u8], out: &mut [u8], at: usize, size: &mut usize) -> u32
-    ensures { reply result (filled out.new size.new) ≡ replied (filled out.old size.old) (giveVerdict state.now out.old at) }
+    ensures { reply result (filled out.new size.new) ≡ replied (filled out.old size.old) (give_verdict state.now out.old at) }
 {
     settle(judge(load(state), out, at), size)
 }

@@ -1,8 +1,8 @@
 // Lowercase hexadecimal digits and big-endian fields of them: read out of a text, and written into one.
 ghost use Rattle.std.specs.Prelude.{◌≡◌, cond, ◌++◌, ◌+◌, ◌%◌, ◌≤◌, ◌<◌, ltb, length, take, drop};
-ghost use Rattle.laws.specs.Digits.{digit as digitOf, digitValue, value, field};
+ghost use Rattle.laws.specs.Digits.{digit as digitOf, digit_value, value, field};
 ghost use Rattle.rules.specs.Answers.{lay};
-ghost use Rattle.digits.specs.Answers.{digitAnswer, fieldAnswer, Within};
+ghost use Rattle.digits.specs.Answers.{digit_answer, field_answer, Within};
 
 // What a byte stands for.
 #[derive(Drop)]
@@ -35,7 +35,7 @@ pub fn digit(v: u8) -> u8
 
 // The number that a byte stands for, if it is a digit.
 pub fn digit_value(b: u8) -> DigitAnswer
-    ensures { result ≡ digitAnswer (digitValue b) }
+    ensures { result ≡ digit_answer (digit_value b) }
 {
     if b < 48 {
         return DigitAnswer::NoDigit;
@@ -61,7 +61,7 @@ fn wide(d: u8) -> u64
 // The number that the `width` digits of s from a place on stand for.
 pub fn read_field(s: &[u8], from: usize, width: usize) -> FieldAnswer
     requires { Within s.now from width }
-    ensures { result ≡ fieldAnswer (value (take width (drop from s.now))) }
+    ensures { result ≡ field_answer (value (take width (drop from s.now))) }
 {
     let mut v: u64 = 0;
     let mut i: usize = 0;

@@ -1,11 +1,11 @@
 // A slot ends and the next begins, in one walk: a task whose deadline falls there and that has left work misses, and that work is
 // dropped; the task releases its next job of C units.
 ghost use Rattle.std.specs.Prelude.{◌≡◌, cond, ◌<◌, eqb, ltb};
-ghost use Rattle.engine.specs.Ends.{nextPhase, Ending, Ended};
+ghost use Rattle.engine.specs.Ends.{next_phase, Ending, Ended};
 
 fn next_phase(phase: u32, t: u32) -> u32
     requires { phase < t }
-    ensures { result ≡ nextPhase phase t }
+    ensures { result ≡ next_phase phase t }
 {
     if phase + 1 == t { 0 } else { phase + 1 }
 }

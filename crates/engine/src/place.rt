@@ -3,7 +3,7 @@
 ghost use Rattle.std.specs.Prelude.{◌≡◌, ◌≤◌, length, cond};
 ghost use Rattle.laws.specs.Lists.{at};
 ghost use Rattle.rules.specs.Slots.{free, seat};
-ghost use Rattle.engine.specs.Placing.{movesTo, Remembered, Idle, Placing, Keeping, Kept, Filling, Filled, Placed};
+ghost use Rattle.engine.specs.Placing.{moves_to, Remembered, Idle, Placing, Keeping, Kept, Filling, Filled, Placed};
 ghost use Rattle.engine.specs.Work.{Working, Worked};
 
 use crate::work::serve;
@@ -66,7 +66,7 @@ fn keep(
 
 // 1 where the task ran before, on another core: a first run is no move.
 fn move_to(core: u8, last: u8) -> u32
-    ensures { result ≡ cond (movesTo core last) 1 0 }
+    ensures { result ≡ cond (moves_to core last) 1 0 }
 {
     if core == last {
         return 0;

@@ -1,7 +1,7 @@
 // One slot: choose, place and work, and at its end the deadlines and the next releases.
 ghost use Rattle.std.specs.Prelude.{◌≡◌, length};
 ghost use Rattle.engine.specs.Placing.{Idle};
-ghost use Rattle.engine.specs.Step.{stepped, stepOn, Ready};
+ghost use Rattle.engine.specs.Step.{stepped, step_on, Ready};
 
 use crate::choose::choose;
 use crate::end::end;
@@ -29,7 +29,7 @@ pub fn slot(
     cores: &mut [u8],
 ) -> SlotCounts
     requires { Ready (length cores.old) c.now t.now ranks.now phase.old left.old last.old done.old dropped.old × Idle cores.old }
-    ensures { stepped phase.new left.new last.new done.new dropped.new cores.new result.moves result.misses ≡ stepOn (length cores.old) c.now t.now ranks.now phase.old left.old last.old done.old dropped.old }
+    ensures { stepped phase.new left.new last.new done.new dropped.new cores.new result.moves result.misses ≡ step_on (length cores.old) c.now t.now ranks.now phase.old left.old last.old done.old dropped.old }
 {
     let mut chosen = [0u8; 32];
     let m = cores.len();

@@ -1,9 +1,9 @@
 // Frame `13`: slot, the task on core 1 to core m, moves in the slot, misses at its end.
 ghost use Rattle.std.specs.Prelude.{◌≡◌, ◌++◌, ◌+◌, ◌*◌, ◌≤◌, length, drop};
 ghost use Rattle.laws.specs.Digits.{field};
-ghost use Rattle.rules.specs.Runs.{slotLine};
+ghost use Rattle.rules.specs.Runs.{slot_line};
 ghost use Rattle.frames.specs.Pairs.{names as everyByte};
-ghost use Rattle.frames.specs.Slots.{shownAs};
+ghost use Rattle.frames.specs.Slots.{shown_as};
 
 use crate::names::write_name;
 
@@ -25,7 +25,7 @@ fn write_number(out: &mut [u8], slot: u32, names: &[u8])
 // The whole frame at the front of the lent part; nothing after it differs.
 pub fn write_slot(out: &mut [u8], slot: u32, cores: &[u8], moves: u32, misses: u32, names: &[u8])
     requires { (length cores.now ≤ 32) × (2 * length cores.now + 15 ≤ length out.old) × (names.now ≡ everyByte) }
-    ensures { out.new ≡ slotLine (shownAs slot cores.now moves misses) ++ drop (2 * length cores.now + 15) out.old }
+    ensures { out.new ≡ slot_line (shown_as slot cores.now moves misses) ++ drop (2 * length cores.now + 15) out.old }
 {
     let end = 2 * cores.len() + 10;
     let last = end + 2;

@@ -2,10 +2,10 @@
 // hand: it copies the rows, one by one, into places of its own, and leaves all else to functions that are covered. There is one place
 // more than a table may have rows, so that a list that is too long is too long in its places too.
 ghost use Rattle.std.specs.Prelude.{◌≡◌, map, min, ◌≤◌, ◌<◌, take, set};
-ghost use Rattle.rules.specs.Tables.{takeList};
-ghost use Rattle.tables.specs.Views.{view_row, tableAnswer};
-ghost use Rattle.tables.specs.Lists.{listRows};
-ghost use Rattle.lent.specs.Pairs.{places, noPairs, pair_of};
+ghost use Rattle.rules.specs.Tables.{take_list};
+ghost use Rattle.tables.specs.Views.{view_row, table_answer};
+ghost use Rattle.tables.specs.Lists.{list_rows};
+ghost use Rattle.lent.specs.Pairs.{places, no_pairs, pair_of};
 
 use rules::kinds::Tasks;
 use tables::list;
@@ -16,7 +16,7 @@ const PLACES: usize = Tasks::MAX as usize + 1;
 
 // No row yet.
 fn no_pairs() -> [[u32; 2]; PLACES]
-    ensures { result ≡ noPairs }
+    ensures { result ≡ no_pairs }
 {
     [[0, 0]; PLACES]
 }
@@ -41,14 +41,14 @@ fn placed(n: usize) -> usize
 // The table of the rows in the first n places.
 fn take_pairs(m: u32, pairs: [[u32; 2]; PLACES], n: usize) -> TableAnswer
     requires { n ≤ places }
-    ensures { result ≡ tableAnswer (takeList m (listRows (take n pairs))) }
+    ensures { result ≡ table_answer (take_list m (list_rows (take n pairs))) }
 {
     list::take_list(m, &pairs[..n])
 }
 
 // The table of a list of rows: the rows in order, and then the tests of a list. Rows past the last place are not looked at.
 pub fn take_rows(m: u32, rows: &[Row]) -> TableAnswer
-    ensures { result ≡ tableAnswer (takeList m (map view_row rows.now)) }
+    ensures { result ≡ table_answer (take_list m (map view_row rows.now)) }
 {
     let n = placed(rows.len());
     let mut pairs = no_pairs();

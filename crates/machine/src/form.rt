@@ -1,12 +1,12 @@
 // Whether a state that a caller hands back is well formed. Nothing is summed before it is known to be small.
 ghost use Rattle.std.specs.Prelude.{◌≡◌, ◌&&◌, ◌||◌, ◌+◌, ◌*◌, ◌≤◌, eqb, leb};
 ghost use Rattle.laws.specs.Lists.{all, numbers, same};
-ghost use Rattle.rules.specs.Limits.{tasksMax};
+ghost use Rattle.rules.specs.Limits.{tasks_max};
 ghost use Rattle.rules.specs.Rows as Rules;
-ghost use Rattle.rules.specs.Forms.{taskFormed};
+ghost use Rattle.rules.specs.Forms.{task_formed};
 ghost use Rattle.tables.specs.Views as Tables;
 ghost use Rattle.machine.specs.Views.{view, viewed, tasks, padded, formed};
-ghost use Rattle.machine.specs.Forms.{Timed, taskFits, Ready};
+ghost use Rattle.machine.specs.Forms.{Timed, task_fits, Ready};
 
 use crate::state::State;
 use rules::kinds::{Slot, TaskNumber, Tasks};
@@ -66,7 +66,7 @@ fn is_padded(s: State) -> bool
 
 // The first n entries are the same.
 fn is_same(a: [TaskNumber; 64], b: [TaskNumber; 64], n: usize) -> bool
-    requires { n ≤ tasksMax }
+    requires { n ≤ tasks_max }
     ensures { result ≡ same (viewed (λ x. x.0) n a) (viewed (λ x. x.0) n b) }
 {
     let mut i = 0;
@@ -105,7 +105,7 @@ fn books_hold(released: u64, done: u64, left: u64, dropped: u64) -> bool
 
 fn task_fits(m: u32, clock: u32, row: Row, left: u64, last: u8, done: u64, dropped: u64) -> bool
     requires { Timed row.c row.t clock }
-    ensures { result ≡ taskFits m clock (Tables.view_row row) left last done dropped }
+    ensures { result ≡ task_fits m clock (Tables.view_row row) left last done dropped }
 {
     let within = both(left <= row.c as u64, either(clock % row.t != 0, left == 0));
     both(
@@ -116,7 +116,7 @@ fn task_fits(m: u32, clock: u32, row: Row, left: u64, last: u8, done: u64, dropp
 
 fn tasks_fit(s: State) -> bool
     requires { Ready s }
-    ensures { result ≡ all (taskFormed (view s)) (numbers (tasks s)) }
+    ensures { result ≡ all (task_formed (view s)) (numbers (tasks s)) }
 {
     let t = s.table;
     let m = t.m.0;
@@ -144,7 +144,7 @@ fn tasks_fit(s: State) -> bool
 
 // Total moves are at most m times the clock, misses at most 64 times it.
 fn totals_fit(m: u32, clock: u32, moves: u64, misses: u64) -> bool
-    ensures { result ≡ (leb moves (m * clock) && leb misses (tasksMax * clock)) }
+    ensures { result ≡ (leb moves (m * clock) && leb misses (tasks_max * clock)) }
 {
     both(moves <= times(m, clock), misses <= times(Tasks::MAX, clock))
 }

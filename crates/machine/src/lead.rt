@@ -1,7 +1,7 @@
 // How far a task is ahead of its even share, or behind it.
 ghost use Rattle.std.specs.Prelude.{◌≡◌, pos, ◌-ℤ◌};
-ghost use Rattle.rules.specs.Answers.{askLead};
-ghost use Rattle.machine.specs.Answers.{asked, leadAnswer, Small};
+ghost use Rattle.rules.specs.Answers.{ask_lead};
+ghost use Rattle.machine.specs.Answers.{asked, lead_answer, Small};
 
 use crate::form::is_formed;
 use crate::state::State;
@@ -31,7 +31,7 @@ fn difference(a: u64, b: u64) -> i64
 
 // done × T - t × C of task i at boundary t.
 pub fn lead(s: State, i: u32) -> LeadAnswer
-    ensures { result ≡ leadAnswer (asked s (λ st. askLead st i)) }
+    ensures { result ≡ lead_answer (asked s (λ st. ask_lead st i)) }
 {
     if !is_formed(s) {
         return LeadAnswer::Refused(Refusal::BadState);

@@ -2,7 +2,7 @@
 ghost use Rattle.std.specs.Prelude.{◌≡◌, true, ◌++◌, ◌∷◌, [], ◌≤◌, length, drop};
 ghost use Rattle.laws.specs.Lists.{sum};
 ghost use Rattle.rules.specs.Frames.{totals, frame};
-ghost use Rattle.rules.specs.Answers.{writeTotals};
+ghost use Rattle.rules.specs.Answers.{write_totals};
 ghost use Rattle.tables.specs.Writes.{made, wrote};
 ghost use Rattle.machine.specs.Views.{view, formed};
 ghost use Rattle.machine.specs.Answers.{asked};
@@ -44,7 +44,7 @@ fn dropped_units(s: State) -> u64
 
 // The frame of a state's totals, from a place of the buffer on: 9, then 7. No other byte differs, and on a refusal none at all.
 pub fn write_totals(s: State, out: &mut [u8], at: usize) -> WriteAnswer
-    ensures { made result out.new ≡ wrote 51 out.old (asked s (λ st. writeTotals st out.old at)) }
+    ensures { made result out.new ≡ wrote 51 out.old (asked s (λ st. write_totals st out.old at)) }
 {
     if !is_formed(s) {
         return WriteAnswer::Refused(Refusal::BadState);

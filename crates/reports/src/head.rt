@@ -1,17 +1,17 @@
 // Frames `11` and `12` of an accepted table.
 ghost use Rattle.std.specs.Prelude.{◌≡◌, ◌++◌, ◌+◌, ◌*◌, drop};
-ghost use Rattle.rules.specs.Runs.{verdictLine, orderLine};
+ghost use Rattle.rules.specs.Runs.{verdict_line, order_line};
 ghost use Rattle.rules.specs.Tables.{size};
 ghost use Rattle.rules.specs.Verdicts.{order};
 ghost use Rattle.tables.specs.Views.{view};
-ghost use Rattle.reports.specs.Heads.{Room, head, headLength};
+ghost use Rattle.reports.specs.Heads.{Room, head, head_length};
 
 use tables::table::Table;
 use verdicts::table::VerdictAnswer;
 
 // How many bytes the two frames take.
 pub fn head_length(t: Table) -> usize
-    ensures { result ≡ headLength (view t) }
+    ensures { result ≡ head_length (view t) }
 {
     18 + 2 * tables::repeat::rows_of(t.n)
 }
@@ -19,7 +19,7 @@ pub fn head_length(t: Table) -> usize
 // Frame `11` at the front of the lent part; nothing after it differs.
 fn write_judgement(out: &mut [u8], t: Table)
     requires { Room t 15 out.old }
-    ensures { out.new ≡ verdictLine (view t) ++ drop 15 out.old }
+    ensures { out.new ≡ verdict_line (view t) ++ drop 15 out.old }
 {
     let VerdictAnswer::Judged(j) = verdicts::table::verdict(t) else {
         return;
@@ -31,7 +31,7 @@ fn write_judgement(out: &mut [u8], t: Table)
 // Frame `12` at the front of the lent part; nothing after it differs.
 fn write_ranks(out: &mut [u8], t: Table)
     requires { Room t (2 * size (view t) + 3) out.old }
-    ensures { out.new ≡ orderLine (order (view t)) ++ drop (2 * size (view t) + 3) out.old }
+    ensures { out.new ≡ order_line (order (view t)) ++ drop (2 * size (view t) + 3) out.old }
 {
     let answer = verdicts::table::priority(t);
     let tasks = answer.ranks;
@@ -42,8 +42,8 @@ fn write_ranks(out: &mut [u8], t: Table)
 
 // Both, one right after the other; nothing after them differs.
 pub fn write_head(out: &mut [u8], t: Table)
-    requires { Room t (headLength (view t)) out.old }
-    ensures { out.new ≡ head (view t) ++ drop (headLength (view t)) out.old }
+    requires { Room t (head_length (view t)) out.old }
+    ensures { out.new ≡ head (view t) ++ drop (head_length (view t)) out.old }
 {
     write_judgement(out, t);
     write_ranks(&mut out[15..], t);

@@ -4,7 +4,7 @@ ghost use Rattle.rules.specs.Program.{report};
 ghost use Rattle.tables.specs.Views.{view};
 ghost use Rattle.machine.specs.Tables.{Opened};
 ghost use Rattle.reports.specs.Heads.{Room};
-ghost use Rattle.reports.specs.Texts.{slots_of, runLines, runLength, reportLength, RunRoom};
+ghost use Rattle.reports.specs.Texts.{slots_of, run_lines, run_length, report_length, RunRoom};
 
 use crate::head::{head_length, write_head};
 use machine::totals::TOTALS_LENGTH;
@@ -28,7 +28,7 @@ fn slots_of(t: Table) -> u32
 // How many bytes all of the text takes.
 pub fn report_length(t: Table) -> usize
     requires { Opened t }
-    ensures { result ≡ reportLength (view t) }
+    ensures { result ≡ report_length (view t) }
 {
     head_length(t) + (length_of(slots_of(t), t.m.0) + TOTALS_LENGTH)
 }
@@ -37,7 +37,7 @@ pub fn report_length(t: Table) -> usize
 // them differs.
 fn write_run(out: &mut [u8], t: Table, count: u32)
     requires { RunRoom t count out.old }
-    ensures { out.new ≡ runLines (view t) count ++ drop (runLength (view t).m count) out.old }
+    ensures { out.new ≡ run_lines (view t) count ++ drop (run_length (view t).m count) out.old }
 {
     let end = length_of(count, t.m.0);
     let start = machine::fresh::fresh(t);
@@ -48,8 +48,8 @@ fn write_run(out: &mut [u8], t: Table, count: u32)
 
 // All of the text at the front of the lent part; nothing after it differs.
 pub fn write_report(out: &mut [u8], t: Table)
-    requires { Room t (reportLength (view t)) out.old }
-    ensures { out.new ≡ report (view t) ++ drop (reportLength (view t)) out.old }
+    requires { Room t (report_length (view t)) out.old }
+    ensures { out.new ≡ report (view t) ++ drop (report_length (view t)) out.old }
 {
     let at = head_length(t);
     let count = slots_of(t);

@@ -3,7 +3,7 @@
 // outside becomes one of these only through the constructor that tests it.
 ghost use Rattle.std.specs.Prelude.{◌≡◌};
 ghost use Rattle.rules.specs.Tables.{outside};
-ghost use Rattle.rules.specs.Kinds.{coresOf, tasksOf, periodOf, repeatOf, slot_of};
+ghost use Rattle.rules.specs.Kinds.{cores_of, tasks_of, period_of, repeat_of, slot_of};
 
 // Whether x is below low or above high.
 pub fn is_outside(x: u32, low: u32, high: u32) -> bool
@@ -28,7 +28,7 @@ impl Cores {
     pub const MAX: u32 = 32;
 
     pub fn new(m: u32) -> CoresAnswer
-        ensures { result ≡ coresOf m }
+        ensures { result ≡ cores_of m }
     {
         if is_outside(m, Cores::MIN, Cores::MAX) {
             CoresAnswer::Outside
@@ -54,7 +54,7 @@ impl Tasks {
     pub const MAX: u32 = 64;
 
     pub fn new(n: u32) -> TasksAnswer
-        ensures { result ≡ tasksOf n }
+        ensures { result ≡ tasks_of n }
     {
         if is_outside(n, Tasks::MIN, Tasks::MAX) {
             TasksAnswer::Outside
@@ -80,7 +80,7 @@ impl Period {
     pub const MAX: u32 = 65_535;
 
     pub fn new(t: u32) -> PeriodAnswer
-        ensures { result ≡ periodOf t }
+        ensures { result ≡ period_of t }
     {
         if is_outside(t, Period::MIN, Period::MAX) {
             PeriodAnswer::Outside
@@ -106,7 +106,7 @@ impl Repeat {
     pub const MAX: u32 = 1_000_000_000;
 
     pub fn new(h: u32) -> RepeatAnswer
-        ensures { result ≡ repeatOf h }
+        ensures { result ≡ repeat_of h }
     {
         if is_outside(h, Repeat::MIN, Repeat::MAX) {
             RepeatAnswer::Outside

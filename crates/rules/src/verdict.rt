@@ -1,5 +1,5 @@
 ghost use Rattle.std.specs.Prelude.{◌≡◌};
-ghost use Rattle.rules.specs.Verdicts.{verdictByte};
+ghost use Rattle.rules.specs.Verdicts.{verdict_byte};
 
 // What the analysis says of a table.
 #[derive(Drop)]
@@ -10,7 +10,7 @@ pub enum Verdict {
 
 // The byte that the paper gives a verdict.
 pub fn byte(v: Verdict) -> u8
-    ensures { result ≡ verdictByte v }
+    ensures { result ≡ verdict_byte v }
 {
     match v {
         Verdict::NotAdmitted => 0,

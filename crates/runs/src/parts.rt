@@ -1,6 +1,6 @@
 // A state taken apart into arrays of plain numbers before a run, and put together after it: once a run, for the tasks alone.
 ghost use Rattle.std.specs.Prelude.{◌≡◌, ◌≤◌, ◌<◌, ◌^◌, ◌%◌, T};
-ghost use Rattle.rules.specs.Limits.{tasksMax};
+ghost use Rattle.rules.specs.Limits.{tasks_max};
 ghost use Rattle.machine.specs.Views.{view, formed};
 ghost use Rattle.runs.specs.Parts.{parts_of, joined};
 
@@ -91,7 +91,7 @@ pub fn together(
     dropped: [u32; 64],
     totals: Totals,
 ) -> State
-    requires { s.table.n.0 ≤ tasksMax }
+    requires { s.table.n.0 ≤ tasks_max }
     ensures { result ≡ joined s clock left last done dropped totals.moves totals.misses }
 {
     let mut lefts = [Units(0); 64];

@@ -1,9 +1,9 @@
 // Running a count of slots from any given state into a lent buffer from a place on: refusals 9, 8, then 7, all tested before the
 // first slot.
 ghost use Rattle.std.specs.Prelude.{◌≡◌, ◌+◌, ◌*◌, ◌≤◌, ltb};
-ghost use Rattle.rules.specs.Limits.{coresMax, clockMax};
-ghost use Rattle.runs.specs.Slots.{frameLength};
-ghost use Rattle.runs.specs.Answers.{Open, RunFormed, refusedRun, runEnd, runAnswer};
+ghost use Rattle.rules.specs.Limits.{cores_max, clock_max};
+ghost use Rattle.runs.specs.Slots.{frame_length};
+ghost use Rattle.runs.specs.Answers.{Open, RunFormed, refused_run, run_end, run_answer};
 
 use crate::parts::{apart, together};
 use crate::slots::{Totals, frame_length, run_slots};
@@ -27,16 +27,16 @@ pub struct RunAnswer {
 
 // The clock would pass its bound.
 fn is_past(clock: u32, count: u32) -> bool
-    requires { clock ≤ clockMax }
-    ensures { result ≡ ltb clockMax (clock + count) }
+    requires { clock ≤ clock_max }
+    ensures { result ≡ ltb clock_max (clock + count) }
 {
     Slot::MAX - clock < count
 }
 
 // How many bytes the frames of a count of slots of m cores take.
 pub fn length_of(count: u32, m: u32) -> usize
-    requires { m ≤ coresMax }
-    ensures { result ≡ count * frameLength m }
+    requires { m ≤ cores_max }
+    ensures { result ≡ count * frame_length m }
 {
     (count as usize) * frame_length(m as usize)
 }
@@ -93,7 +93,7 @@ fn run_formed(s: State, count: u32, out: &mut [u8]) -> State
 }
 
 fn refused(s: State, r: Refusal) -> RunAnswer
-    ensures { result ≡ refusedRun s r }
+    ensures { result ≡ refused_run s r }
 {
     RunAnswer {
         outcome: RunOutcome::Refused(r),
@@ -103,7 +103,7 @@ fn refused(s: State, r: Refusal) -> RunAnswer
 
 // One frame for each slot, each right after the last, from the place on; no other byte differs.
 pub fn run(s: State, count: u32, out: &mut [u8], at: usize) -> RunAnswer
-    ensures { runEnd result out.new ≡ runAnswer s count out.old at }
+    ensures { run_end result out.new ≡ run_answer s count out.old at }
 {
     if !is_formed(s) {
         return refused(s, Refusal::BadState);
@@ -124,7 +124,7 @@ pub fn run(s: State, count: u32, out: &mut [u8], at: usize) -> RunAnswer
 
 // A run of one slot.
 pub fn step(s: State, out: &mut [u8], at: usize) -> RunAnswer
-    ensures { runEnd result out.new ≡ runAnswer s 1 out.old at }
+    ensures { run_end result out.new ≡ run_answer s 1 out.old at }
 {
     run(s, 1, out, at)
 }

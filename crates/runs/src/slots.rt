@@ -1,7 +1,7 @@
 // The slots of a run, one after the other, on lent slices of plain numbers: no copy of the state and no division in the loop.
 ghost use Rattle.std.specs.Prelude.{◌≡◌, ◌+◌, ◌≤◌};
-ghost use Rattle.rules.specs.Limits.{coresMax};
-ghost use Rattle.runs.specs.Slots.{state_of, frameLength, Runnable, RanSlots};
+ghost use Rattle.rules.specs.Limits.{cores_max};
+ghost use Rattle.runs.specs.Slots.{state_of, frame_length, Runnable, RanSlots};
 
 use engine::release::release;
 use engine::slot::slot;
@@ -17,8 +17,8 @@ pub struct Totals {
 
 // How many bytes the frame of a slot of m cores takes.
 pub fn frame_length(m: usize) -> usize
-    requires { m ≤ coresMax }
-    ensures { result ≡ frameLength m }
+    requires { m ≤ cores_max }
+    ensures { result ≡ frame_length m }
 {
     2 * m + 15
 }

@@ -1,6 +1,6 @@
 // The program: a table file on standard input, its verdict, order, slots and totals on standard output.
 ghost use Rattle.std.specs.Prelude.{◌≤◌, length};
-ghost use Rattle.reports.specs.Reports.{textMax, Printed};
+ghost use Rattle.reports.specs.Reports.{text_max, Printed};
 
 use libc::{STDIN_FILENO, STDOUT_FILENO};
 use reports::report::INPUT_MAX;
@@ -11,7 +11,7 @@ const TEXT_MAX: usize = 323781;
 
 // The text for an input in a buffer that is long enough for any, and how many bytes it has: nothing is refused.
 fn text(input: &[u8], out: &mut [u8]) -> usize
-    requires { textMax ≤ length out.old }
+    requires { text_max ≤ length out.old }
     ensures { Printed input.now out.old result out.new }
 {
     match reports::report::report(input, out, 0) {

@@ -2,11 +2,11 @@
 ghost use Rattle.std.specs.Prelude.{◌≡◌, map};
 ghost use Rattle.laws.specs.Lists.{numbers, each};
 ghost use Rattle.rules.specs.Refusals.{refused as refusedWith};
-ghost use Rattle.tables.specs.Views.{packRow, packRows};
-ghost use Rattle.machine.specs.Views.{taskNumber, coreNumber, units as unitsOf, packed, pack};
+ghost use Rattle.tables.specs.Views.{pack_row, pack_rows};
+ghost use Rattle.machine.specs.Views.{task_number, core_number, units as units_of, packed, pack};
 ghost use Rattle.stored.specs.Layout.{place_of, decoded, load as loaded};
 ghost use Rattle.stored.specs.Places.{Within, row_at, cell, Held, Column};
-ghost use Rattle.stored.specs.Answers.{noState, stateAnswer};
+ghost use Rattle.stored.specs.Answers.{no_state, state_answer};
 
 use crate::bytes::read_bytes;
 use crate::{FIXED, RECORD};
@@ -43,7 +43,7 @@ pub struct StateAnswer {
 
 // The state with no core and no task.
 fn empty() -> State
-    ensures { result ≡ noState }
+    ensures { result ≡ no_state }
 {
     State {
         table: tables::table::empty(),
@@ -63,7 +63,7 @@ fn empty() -> State
 // The row whose bytes begin at a place.
 fn row_at(bytes: &[u8], at: usize) -> Row
     requires { Within bytes.now at 8 }
-    ensures { result ≡ packRow (row_at bytes.now at) }
+    ensures { result ≡ pack_row (row_at bytes.now at) }
 {
     Row {
         c: read_bytes(bytes, at, 4) as u32,
@@ -73,7 +73,7 @@ fn row_at(bytes: &[u8], at: usize) -> Row
 
 fn rows(bytes: &[u8], n: usize) -> [Row; 64]
     requires { Held bytes.now n }
-    ensures { result ≡ packRows (map (λ i. row_at bytes.now (place_of i)) (numbers n)) }
+    ensures { result ≡ pack_rows (map (λ i. row_at bytes.now (place_of i)) (numbers n)) }
 {
     let mut rows = [Row { c: 0, t: 0 }; 64];
     let mut i = 0;
@@ -86,7 +86,7 @@ fn rows(bytes: &[u8], n: usize) -> [Row; 64]
 
 fn ranks(bytes: &[u8], n: usize) -> [TaskNumber; 64]
     requires { Held bytes.now n }
-    ensures { result ≡ packed taskNumber (each n (cell bytes.now 30 1)) }
+    ensures { result ≡ packed task_number (each n (cell bytes.now 30 1)) }
 {
     let mut ranks = [TaskNumber(0); 64];
     let mut i = 0;
@@ -99,7 +99,7 @@ fn ranks(bytes: &[u8], n: usize) -> [TaskNumber; 64]
 
 fn cores(bytes: &[u8], n: usize) -> [CoreNumber; 64]
     requires { Held bytes.now n }
-    ensures { result ≡ packed coreNumber (each n (cell bytes.now 31 1)) }
+    ensures { result ≡ packed core_number (each n (cell bytes.now 31 1)) }
 {
     let mut cores = [CoreNumber(0); 64];
     let mut i = 0;
@@ -113,7 +113,7 @@ fn cores(bytes: &[u8], n: usize) -> [CoreNumber; 64]
 // Left, done and dropped: the place is that of task 1.
 fn units(bytes: &[u8], n: usize, from: usize) -> [Units; 64]
     requires { Column bytes.now n from }
-    ensures { result ≡ packed unitsOf (each n (cell bytes.now from 8)) }
+    ensures { result ≡ packed units_of (each n (cell bytes.now from 8)) }
 {
     let mut units = [Units(0); 64];
     let mut i = 0;
@@ -149,7 +149,7 @@ fn decode(bytes: &[u8], n: usize) -> State
 }
 
 fn refused() -> StateAnswer
-    ensures { result ≡ stateAnswer (refusedWith Refusal.BadState 0) }
+    ensures { result ≡ state_answer (refusedWith Refusal.BadState 0) }
 {
     StateAnswer {
         outcome: Outcome::Refused(Refusal::BadState),
@@ -159,7 +159,7 @@ fn refused() -> StateAnswer
 
 // The state that is stored in the bytes, or 9.
 pub fn load(bytes: &[u8]) -> StateAnswer
-    ensures { result ≡ stateAnswer (loaded bytes.now) }
+    ensures { result ≡ state_answer (loaded bytes.now) }
 {
     if bytes.len() < FIXED {
         return refused();

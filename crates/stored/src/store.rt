@@ -3,8 +3,8 @@ ghost use Rattle.std.specs.Prelude.{◌≡◌, ◌++◌, ◌∷◌, [], map, ◌
 ghost use Rattle.laws.specs.Lists.{join, numbers};
 ghost use Rattle.tables.specs.Writes.{made};
 ghost use Rattle.machine.specs.Views.{tasks, view};
-ghost use Rattle.stored.specs.Layout.{written, fixedWidths, taskWidths, length_of, recordOf, store as stored};
-ghost use Rattle.stored.specs.Answers.{Room, storedState};
+ghost use Rattle.stored.specs.Layout.{written, fixed_widths, task_widths, length_of, record_of, store as stored};
+ghost use Rattle.stored.specs.Answers.{Room, stored_state};
 
 use crate::bytes::write_bytes;
 use crate::{FIXED, RECORD};
@@ -17,7 +17,7 @@ use tables::write::WriteAnswer;
 // The fixed part at the front of the lent part; nothing after it differs.
 fn write_fixed(out: &mut [u8], m: u32, n: u32, clock: u32, moves: u64, misses: u64)
     requires { 22 ≤ length out.old }
-    ensures { out.new ≡ written fixedWidths (m ∷ n ∷ clock ∷ moves ∷ misses ∷ []) ++ drop 22 out.old }
+    ensures { out.new ≡ written fixed_widths (m ∷ n ∷ clock ∷ moves ∷ misses ∷ []) ++ drop 22 out.old }
 {
     write_bytes(out, 0, 1, m as u64);
     write_bytes(out, 1, 1, n as u64);
@@ -29,7 +29,7 @@ fn write_fixed(out: &mut [u8], m: u32, n: u32, clock: u32, moves: u64, misses: u
 // The record of a task at the front of the lent part; nothing after it differs.
 fn write_task(out: &mut [u8], row: Row, rank: u8, last: u8, left: u64, done: u64, dropped: u64)
     requires { 34 ≤ length out.old }
-    ensures { out.new ≡ written taskWidths (row.c ∷ row.t ∷ rank ∷ last ∷ left ∷ done ∷ dropped ∷ []) ++ drop 34 out.old }
+    ensures { out.new ≡ written task_widths (row.c ∷ row.t ∷ rank ∷ last ∷ left ∷ done ∷ dropped ∷ []) ++ drop 34 out.old }
 {
     write_bytes(out, 0, 4, row.c as u64);
     write_bytes(out, 4, 4, row.t as u64);
@@ -43,7 +43,7 @@ fn write_task(out: &mut [u8], row: Row, rank: u8, last: u8, left: u64, done: u64
 // The records of all tasks, one right after the other.
 fn write_tasks(out: &mut [u8], s: State)
     requires { Room s (34 * tasks s) out.old }
-    ensures { out.new ≡ join (map (recordOf (view s)) (numbers (tasks s))) ++ drop (34 * tasks s) out.old }
+    ensures { out.new ≡ join (map (record_of (view s)) (numbers (tasks s))) ++ drop (34 * tasks s) out.old }
 {
     let t = s.table;
     let n = t.n.0 as usize;
@@ -76,7 +76,7 @@ fn write_state(out: &mut [u8], s: State)
 
 // The bytes of a state, from a place of the buffer on: 9, then 7. No other byte differs, and on a refusal none at all.
 pub fn store(s: State, out: &mut [u8], at: usize) -> WriteAnswer
-    ensures { made result out.new ≡ storedState s out.old at }
+    ensures { made result out.new ≡ stored_state s out.old at }
 {
     if !is_formed(s) {
         return WriteAnswer::Refused(Refusal::BadState);

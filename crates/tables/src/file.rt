@@ -1,8 +1,8 @@
 // A table file, read line by line: the header, the rows, the end, and then the tests of all rows together.
 ghost use Rattle.std.specs.Prelude.{◌≡◌, ◌≤◌};
-ghost use Rattle.rules.specs.Files.{readRows, readLines, readFile};
-ghost use Rattle.tables.specs.Views.{tableAnswer};
-ghost use Rattle.tables.specs.Rows.{rowsRead};
+ghost use Rattle.rules.specs.Files.{read_rows, read_lines, read_file};
+ghost use Rattle.tables.specs.Views.{table_answer};
+ghost use Rattle.tables.specs.Rows.{rows_read};
 
 use crate::header::HeaderAnswer;
 use crate::row::RowAnswer;
@@ -13,7 +13,7 @@ use rules::refusal::Refusal;
 // n rows from the front of a text, the first at line 2. One that cannot be read ends the reading there.
 fn read_rows(s: &[u8], n: usize) -> RowsAnswer
     requires { n ≤ 64 }
-    ensures { result ≡ rowsRead (readRows 2 n s.now) }
+    ensures { result ≡ rows_read (read_rows 2 n s.now) }
 {
     let mut rows = [Row { c: 0, t: 0 }; 64];
     let mut line: u32 = 2;
@@ -37,7 +37,7 @@ fn read_rows(s: &[u8], n: usize) -> RowsAnswer
 
 // The lines, up to the end of the text.
 fn read_lines(s: &[u8]) -> TableAnswer
-    ensures { result ≡ tableAnswer (readLines s.now) }
+    ensures { result ≡ table_answer (read_lines s.now) }
 {
     let h = header::read_header(s);
     let HeaderAnswer::Good(m, n) = h else {
@@ -61,7 +61,7 @@ fn read_lines(s: &[u8]) -> TableAnswer
 
 // A whole file.
 pub fn read_file(s: &[u8]) -> TableAnswer
-    ensures { result ≡ tableAnswer (readFile s.now) }
+    ensures { result ≡ table_answer (read_file s.now) }
 {
     let read = read_lines(s);
     let outcome = read.outcome;

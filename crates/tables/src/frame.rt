@@ -1,7 +1,7 @@
 // Frames of two numbers in fields of one width: the header and the row are such.
 ghost use Rattle.std.specs.Prelude.{◌≡◌, ◌++◌, ◌∷◌, [], ◌+◌, ◌≤◌, length, drop};
-ghost use Rattle.rules.specs.Frames.{frame, readFrame};
-ghost use Rattle.tables.specs.Pairs.{pairShape, pairAnswer};
+ghost use Rattle.rules.specs.Frames.{frame, read_frame};
+ghost use Rattle.tables.specs.Pairs.{pair_shape, pair_answer};
 
 use digits::FieldAnswer;
 
@@ -30,7 +30,7 @@ pub(crate) enum PairAnswer {
 // The two numbers of the frame that a text begins with.
 pub(crate) fn read_pair(s: &[u8], kind: u64, width: usize) -> PairAnswer
     requires { width ≤ 8 }
-    ensures { result ≡ pairAnswer (readFrame (pairShape kind width) s.now) }
+    ensures { result ≡ pair_answer (read_frame (pair_shape kind width) s.now) }
 {
     let end = 2 + width + width;
     if s.len() <= end {
@@ -57,7 +57,7 @@ pub(crate) fn read_pair(s: &[u8], kind: u64, width: usize) -> PairAnswer
 // The frame of two numbers at the front of the lent part; nothing after it differs.
 pub(crate) fn write_pair(out: &mut [u8], kind: u64, width: usize, a: u32, b: u32)
     requires { 2 + width + width + 1 ≤ length out.old }
-    ensures { out.new ≡ frame (pairShape kind width) (a ∷ b ∷ []) ++ drop (2 + width + width + 1) out.old }
+    ensures { out.new ≡ frame (pair_shape kind width) (a ∷ b ∷ []) ++ drop (2 + width + width + 1) out.old }
 {
     let second = 2 + width;
     let feed = 2 + width + width;

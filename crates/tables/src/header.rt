@@ -1,7 +1,7 @@
 // The header's numbers: their tests, the same in a file and in a list, and their line in a file.
 ghost use Rattle.std.specs.Prelude.{◌≡◌};
-ghost use Rattle.rules.specs.Files.{readHeader};
-ghost use Rattle.tables.specs.Headers.{headerAnswer, headerRead, headerOutcome, testHeader};
+ghost use Rattle.rules.specs.Files.{read_header};
+ghost use Rattle.tables.specs.Headers.{header_answer, header_read, header_outcome, test_header};
 
 use crate::frame;
 use crate::frame::PairAnswer;
@@ -18,7 +18,7 @@ pub enum HeaderAnswer {
 
 // The tests of m, then of n. A count past 32 bits is outside its bounds too.
 pub fn test_header(m: u32, n: usize, line: u32) -> HeaderAnswer
-    ensures { result ≡ headerAnswer (testHeader m n line) }
+    ensures { result ≡ header_answer (test_header m n line) }
 {
     let CoresAnswer::Within(cores) = Cores::new(m) else {
         return HeaderAnswer::Refused(Refusal::BadCores, line);
@@ -34,7 +34,7 @@ pub fn test_header(m: u32, n: usize, line: u32) -> HeaderAnswer
 
 // The header that a text begins with.
 pub(crate) fn read_header(s: &[u8]) -> HeaderAnswer
-    ensures { result ≡ headerRead (readHeader s.now) }
+    ensures { result ≡ header_read (read_header s.now) }
 {
     let PairAnswer::Pair(m, n) = frame::read_pair(s, frame::HEADER_TYPE, frame::HEADER_WIDTH) else {
         return HeaderAnswer::Refused(Refusal::BadLine, 1);
@@ -44,7 +44,7 @@ pub(crate) fn read_header(s: &[u8]) -> HeaderAnswer
 
 // What an answer says besides m and n.
 pub fn outcome(h: HeaderAnswer) -> Outcome
-    ensures { result ≡ headerOutcome h }
+    ensures { result ≡ header_outcome h }
 {
     match h {
         HeaderAnswer::Good(_, _) => Outcome::Taken,

@@ -1,9 +1,9 @@
 // A list of rows, each a pair of C and T: tested, and taken as a table.
 ghost use Rattle.std.specs.Prelude.{◌≡◌, ◌≤◌, length};
-ghost use Rattle.rules.specs.Tables.{takeList};
-ghost use Rattle.tables.specs.Views.{tableAnswer};
-ghost use Rattle.tables.specs.Rows.{rowsAnswer};
-ghost use Rattle.tables.specs.Lists.{listRows, testRows};
+ghost use Rattle.rules.specs.Tables.{take_list};
+ghost use Rattle.tables.specs.Views.{table_answer};
+ghost use Rattle.tables.specs.Rows.{rows_answer};
+ghost use Rattle.tables.specs.Lists.{list_rows, test_rows};
 
 use crate::header::HeaderAnswer;
 use crate::row::RowAnswer;
@@ -13,7 +13,7 @@ use crate::{header, repeat, row, table};
 // The tests of each row, in their order. One that is refused ends them there.
 fn test_rows(list: &[[u32; 2]]) -> RowsAnswer
     requires { length list.now ≤ 64 }
-    ensures { result ≡ rowsAnswer (testRows (listRows list.now)) }
+    ensures { result ≡ rows_answer (test_rows (list_rows list.now)) }
 {
     let mut rows = [Row { c: 0, t: 0 }; 64];
     let mut i: usize = 0;
@@ -33,7 +33,7 @@ fn test_rows(list: &[[u32; 2]]) -> RowsAnswer
 
 // The table of a list of rows.
 pub fn take_list(m: u32, list: &[[u32; 2]]) -> TableAnswer
-    ensures { result ≡ tableAnswer (takeList m (listRows list.now)) }
+    ensures { result ≡ table_answer (take_list m (list_rows list.now)) }
 {
     let h = header::test_header(m, list.len(), 0);
     let HeaderAnswer::Good(cores, tasks) = h else {

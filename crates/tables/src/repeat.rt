@@ -1,11 +1,11 @@
 // The repeat length H: the least common multiple of all periods, up to its bound.
 ghost use Rattle.std.specs.Prelude.{◌≡◌, min};
-ghost use Rattle.rules.specs.Kinds.{repeatOf};
+ghost use Rattle.rules.specs.Kinds.{repeat_of};
 ghost use Rattle.rules.specs.Refusals.{settle};
-ghost use Rattle.rules.specs.Repeat.{lcm as lcmOf, repeatLength};
-ghost use Rattle.rules.specs.Tables.{wholeTests};
+ghost use Rattle.rules.specs.Repeat.{lcm as lcmOf, repeat_length};
+ghost use Rattle.rules.specs.Tables.{whole_tests};
 ghost use Rattle.tables.specs.Repeats.{Gcd, Reached};
-ghost use Rattle.tables.specs.Views.{view, tableAnswer, Formed};
+ghost use Rattle.tables.specs.Views.{view, table_answer, Formed};
 
 use crate::table;
 use crate::table::{Outcome, Table, TableAnswer};
@@ -36,7 +36,7 @@ fn wide(x: u32) -> u64
 // has, leaves h as it is, as the definition does.)
 fn lcm(h: Repeat, t: u32) -> RepeatAnswer
     requires { Reached h }
-    ensures { result ≡ repeatOf (lcmOf h.0 t) }
+    ensures { result ≡ repeat_of (lcmOf h.0 t) }
 {
     if t == 0 {
         return RepeatAnswer::Within(h);
@@ -62,7 +62,7 @@ pub fn rows_of(n: Tasks) -> usize
 
 // H, unless it is above its bound. The first value on the way that is above it ends the work: it divides H.
 pub fn repeat_length(table: Table) -> RepeatAnswer
-    ensures { result ≡ repeatOf (repeatLength (view table).rows) }
+    ensures { result ≡ repeat_of (repeat_length (view table).rows) }
 {
     let n = rows_of(table.n);
     let mut h = Repeat(1);
@@ -80,7 +80,7 @@ pub fn repeat_length(table: Table) -> RepeatAnswer
 // The tests of all rows together, which have no line.
 pub(crate) fn test_whole(table: Table) -> TableAnswer
     requires { Formed table }
-    ensures { result ≡ tableAnswer (settle (wholeTests (view table).rows) (view table)) }
+    ensures { result ≡ table_answer (settle (whole_tests (view table).rows) (view table)) }
 {
     match repeat_length(table) {
         RepeatAnswer::Within(_) => TableAnswer {

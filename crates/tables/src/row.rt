@@ -1,7 +1,7 @@
 // One row: its tests, the same in a file and in a list, and its line in a file.
 ghost use Rattle.std.specs.Prelude.{◌≡◌};
-ghost use Rattle.rules.specs.Files.{readRow};
-ghost use Rattle.tables.specs.Rows.{rowAnswer, rowRead, rowOutcome, testRow};
+ghost use Rattle.rules.specs.Files.{read_row};
+ghost use Rattle.tables.specs.Rows.{row_answer, row_read, row_outcome, test_row};
 
 use crate::frame;
 use crate::frame::PairAnswer;
@@ -18,7 +18,7 @@ pub enum RowAnswer {
 
 // The tests of a row: C = 0, C > T, or T above its bound.
 pub fn test_row(c: u32, t: u32, line: u32) -> RowAnswer
-    ensures { result ≡ rowAnswer (testRow c t line) }
+    ensures { result ≡ row_answer (test_row c t line) }
 {
     if c == 0 {
         return RowAnswer::Refused(Refusal::BadRow, line);
@@ -34,7 +34,7 @@ pub fn test_row(c: u32, t: u32, line: u32) -> RowAnswer
 
 // The row that a text begins with.
 pub(crate) fn read_row(s: &[u8], line: u32) -> RowAnswer
-    ensures { result ≡ rowRead (readRow line s.now) }
+    ensures { result ≡ row_read (read_row line s.now) }
 {
     let PairAnswer::Pair(c, t) = frame::read_pair(s, frame::ROW_TYPE, frame::ROW_WIDTH) else {
         return RowAnswer::Refused(Refusal::BadLine, line);
@@ -44,7 +44,7 @@ pub(crate) fn read_row(s: &[u8], line: u32) -> RowAnswer
 
 // What an answer says besides the row.
 pub fn outcome(a: RowAnswer) -> Outcome
-    ensures { result ≡ rowOutcome a }
+    ensures { result ≡ row_outcome a }
 {
     match a {
         RowAnswer::Good(_) => Outcome::Taken,

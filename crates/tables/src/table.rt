@@ -1,6 +1,6 @@
 // A table, and the answer that has one beside it.
 ghost use Rattle.std.specs.Prelude.{◌≡◌};
-ghost use Rattle.tables.specs.Views.{noTable, withoutTable, withoutRows};
+ghost use Rattle.tables.specs.Views.{no_table, without_table, without_rows};
 
 use rules::kinds::{Cores, Tasks};
 use rules::refusal::Refusal;
@@ -43,7 +43,7 @@ pub(crate) struct RowsAnswer {
 
 // The table with no core and no task.
 pub fn empty() -> Table
-    ensures { result ≡ noTable }
+    ensures { result ≡ no_table }
 {
     Table {
         m: Cores(0),
@@ -54,7 +54,7 @@ pub fn empty() -> Table
 
 // An answer with no table.
 pub(crate) fn no_table(o: Outcome) -> TableAnswer
-    ensures { result ≡ withoutTable o }
+    ensures { result ≡ without_table o }
 {
     TableAnswer {
         outcome: o,
@@ -64,7 +64,7 @@ pub(crate) fn no_table(o: Outcome) -> TableAnswer
 
 // An answer with no row.
 pub(crate) fn no_rows(o: Outcome) -> RowsAnswer
-    ensures { result ≡ withoutRows o }
+    ensures { result ≡ without_rows o }
 {
     RowsAnswer {
         outcome: o,
@@ -74,7 +74,7 @@ pub(crate) fn no_rows(o: Outcome) -> RowsAnswer
 
 // A refusal at a line.
 pub(crate) fn refused(r: Refusal, line: u32) -> TableAnswer
-    ensures { result ≡ withoutTable (Outcome.Refused r line) }
+    ensures { result ≡ without_table (Outcome.Refused r line) }
 {
     no_table(Outcome::Refused(r, line))
 }

@@ -3,8 +3,8 @@ ghost use Rattle.std.specs.Prelude.{◌≡◌, ◌++◌, map, ◌+◌, ◌*◌, 
 ghost use Rattle.laws.specs.Lists.{join};
 ghost use Rattle.rules.specs.Files.{row_line, text};
 ghost use Rattle.tables.specs.Views.{view};
-ghost use Rattle.tables.specs.Lists.{listRows};
-ghost use Rattle.tables.specs.Writes.{outcomeAnswer, made, writtenList};
+ghost use Rattle.tables.specs.Lists.{list_rows};
+ghost use Rattle.tables.specs.Writes.{outcome_answer, made, written_list};
 
 use crate::table::{Outcome, Table};
 use crate::{frame, list, repeat};
@@ -56,7 +56,7 @@ fn write_table(out: &mut [u8], table: Table)
 
 // A refusal, whatever its line.
 fn not_written(o: Outcome) -> WriteAnswer
-    ensures { result ≡ outcomeAnswer o }
+    ensures { result ≡ outcome_answer o }
 {
     match o {
         Outcome::Taken => WriteAnswer::Written(0),
@@ -66,7 +66,7 @@ fn not_written(o: Outcome) -> WriteAnswer
 
 // The text of a list of rows, from a place of the buffer on. No other byte differs, and on a refusal none at all.
 pub fn write_list(m: u32, list: &[[u32; 2]], out: &mut [u8], place: usize) -> WriteAnswer
-    ensures { made result out.new ≡ writtenList m (listRows list.now) out.old place }
+    ensures { made result out.new ≡ written_list m (list_rows list.now) out.old place }
 {
     let taken = list::take_list(m, list);
     let outcome = taken.outcome;

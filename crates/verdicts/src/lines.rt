@@ -1,14 +1,14 @@
 // Frames `11` and `12`, written at the front of a lent part of a buffer: nothing after them differs.
 ghost use Rattle.std.specs.Prelude.{◌≡◌, ◌++◌, ◌+◌, ◌*◌, ◌≤◌, length, drop};
-ghost use Rattle.rules.specs.Runs.{orderLine};
-ghost use Rattle.verdicts.specs.Lines.{verdictFrame};
+ghost use Rattle.rules.specs.Runs.{order_line};
+ghost use Rattle.verdicts.specs.Lines.{verdict_frame};
 
 use rules::verdict::Verdict;
 
 // Frame `11`: the verdict, the number of heavy tasks, H.
 pub fn write_verdict(out: &mut [u8], v: Verdict, heavy: u32, h: u32)
     requires { 15 ≤ length out.old }
-    ensures { out.new ≡ verdictFrame v heavy h ++ drop 15 out.old }
+    ensures { out.new ≡ verdict_frame v heavy h ++ drop 15 out.old }
 {
     digits::write_field(out, 0, 2, 0x11);
     digits::write_field(out, 2, 2, rules::verdict::byte(v) as u64);
@@ -20,7 +20,7 @@ pub fn write_verdict(out: &mut [u8], v: Verdict, heavy: u32, h: u32)
 // Frame `12`: the task numbers, highest priority first.
 pub fn write_order(out: &mut [u8], ranks: &[u8])
     requires { 2 * length ranks.now + 3 ≤ length out.old }
-    ensures { out.new ≡ orderLine ranks.now ++ drop (2 * length ranks.now + 3) out.old }
+    ensures { out.new ≡ order_line ranks.now ++ drop (2 * length ranks.now + 3) out.old }
 {
     let feed = 2 + 2 * ranks.len();
     digits::write_field(out, 0, 2, 0x12);

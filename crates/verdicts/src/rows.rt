@@ -1,6 +1,6 @@
 // The two columns of a table.
 ghost use Rattle.std.specs.Prelude.{◌≡◌};
-ghost use Rattle.verdicts.specs.Structs.{columnsOf};
+ghost use Rattle.verdicts.specs.Structs.{columns_of};
 
 use tables::table::Table;
 
@@ -12,7 +12,7 @@ pub struct Columns {
 }
 
 pub fn split(table: Table) -> Columns
-    ensures { result ≡ columnsOf table }
+    ensures { result ≡ columns_of table }
 {
     let mut c = [0u32; 64];
     let mut t = [0u32; 64];

@@ -1,10 +1,10 @@
 // Which tasks are heavy: those whose share C/T is above the fraction m/(3m-2).
 ghost use Rattle.std.specs.Prelude.{◌≡◌, cond, ◌*◌};
-ghost use Rattle.rules.specs.Verdicts.{fraction, heavyAt, heavyCount};
+ghost use Rattle.rules.specs.Verdicts.{fraction, heavy_at, heavy_count};
 ghost use Rattle.reading_laws.specs.Bounds.{Within};
-ghost use Rattle.rules.specs.Limits.{coresMin, coresMax};
+ghost use Rattle.rules.specs.Limits.{cores_min, cores_max};
 ghost use Rattle.verdicts.specs.Columns.{Columns, table_of};
-ghost use Rattle.verdicts.specs.Fractions.{packFraction, viewFraction};
+ghost use Rattle.verdicts.specs.Fractions.{pack_fraction, view_fraction};
 
 // The share from which on a task is heavy, as a numerator and a denominator.
 #[derive(Drop)]
@@ -16,8 +16,8 @@ pub struct Fraction {
 impl Fraction {
     // m/(3m-2).
     pub fn of(m: u32) -> Fraction
-        requires { Within coresMin coresMax m }
-        ensures { result ≡ packFraction (fraction m) }
+        requires { Within cores_min cores_max m }
+        ensures { result ≡ pack_fraction (fraction m) }
     {
         Fraction {
             num: m,
@@ -35,7 +35,7 @@ pub fn times(a: u32, b: u32) -> u64
 
 // Whether C/T is above the fraction.
 pub fn is_heavy(f: Fraction, c: u32, t: u32) -> bool
-    ensures { result ≡ heavyAt (viewFraction f) (record { c = c; t = t }) }
+    ensures { result ≡ heavy_at (view_fraction f) (record { c = c; t = t }) }
 {
     times(t, f.num) < times(c, f.den)
 }
@@ -50,7 +50,7 @@ fn one(b: bool) -> u32
 // How many tasks are heavy.
 pub fn count_heavy(m: u32, c: &[u32], t: &[u32]) -> u32
     requires { Columns m c.now t.now }
-    ensures { result ≡ heavyCount (table_of m c.now t.now) }
+    ensures { result ≡ heavy_count (table_of m c.now t.now) }
 {
     let f = Fraction::of(m);
     let mut n: u32 = 0;

@@ -3,10 +3,10 @@
 ghost use Rattle.std.specs.Prelude.{◌≡◌, map};
 ghost use Rattle.laws.specs.Lists.{join};
 ghost use Rattle.rules.specs.Refusals.{first, settle};
-ghost use Rattle.rules.specs.Tables.{rowTests};
+ghost use Rattle.rules.specs.Tables.{row_tests};
 ghost use Rattle.rules.specs.Verdicts.{order as order_of};
 ghost use Rattle.tables.specs.Views.{view_row, view};
-ghost use Rattle.verdicts.specs.Structs.{outcomeOf, linesTests, structTests, repeatOf, testAnswer, judgementOf, verdictAnswer, number_of, packRanks, priorityAnswer, Sound, Known};
+ghost use Rattle.verdicts.specs.Structs.{outcome_of, lines_tests, struct_tests, repeat_of, test_answer, judgement_of, verdict_answer, number_of, pack_ranks, priority_answer, Sound, Known};
 
 use crate::limit::judge;
 use crate::order::order;
@@ -49,7 +49,7 @@ pub struct PriorityAnswer {
 
 // The tests of one row.
 fn test_row(row: Row) -> Outcome
-    ensures { result ≡ outcomeOf (first (rowTests (view_row row))) }
+    ensures { result ≡ outcome_of (first (row_tests (view_row row))) }
 {
     match tables::row::test_row(row.c, row.t, 0) {
         RowAnswer::Good(_) => Outcome::Taken,
@@ -59,7 +59,7 @@ fn test_row(row: Row) -> Outcome
 
 // The tests of the rows that count: the first that is refused ends them.
 fn test_rows(t: Table) -> Outcome
-    ensures { result ≡ outcomeOf (first (join (map rowTests (view t).rows))) }
+    ensures { result ≡ outcome_of (first (join (map row_tests (view t).rows))) }
 {
     let n = tables::repeat::rows_of(t.n);
     let mut i: usize = 0;
@@ -75,7 +75,7 @@ fn test_rows(t: Table) -> Outcome
 
 // The tests of m and n, then of the rows.
 fn test_lines(t: Table) -> Outcome
-    ensures { result ≡ outcomeOf (first (linesTests t)) }
+    ensures { result ≡ outcome_of (first (lines_tests t)) }
 {
     match tables::header::test_header(t.m.0, t.n.0 as usize, 0) {
         HeaderAnswer::Good(_, _) => test_rows(t),
@@ -85,7 +85,7 @@ fn test_lines(t: Table) -> Outcome
 
 // All tests of a table: those of the lines, then of H.
 pub fn test_table(t: Table) -> TableTest
-    ensures { result ≡ testAnswer (settle (structTests t) (repeatOf (view t))) }
+    ensures { result ≡ test_answer (settle (struct_tests t) (repeat_of (view t))) }
 {
     match test_lines(t) {
         Outcome::Refused(r, line) => TableTest::Refused(r, line),
@@ -99,7 +99,7 @@ pub fn test_table(t: Table) -> TableTest
 // What frame `11` says of a table that passes all tests, from its repeat length.
 fn judged(table: Table, h: Repeat) -> Judgement
     requires { Known table h }
-    ensures { result ≡ judgementOf (view table) }
+    ensures { result ≡ judgement_of (view table) }
 {
     let m = table.m.0;
     let n = table.n.0 as usize;
@@ -144,7 +144,7 @@ pub fn plain(tasks: [TaskNumber; 64]) -> [u8; 64]
 // The order of a table that passes all tests, and zeros past it.
 fn ranked(table: Table) -> [TaskNumber; 64]
     requires { Sound table }
-    ensures { result ≡ packRanks (order_of (view table)) }
+    ensures { result ≡ pack_ranks (order_of (view table)) }
 {
     let m = table.m.0;
     let n = table.n.0 as usize;
@@ -158,7 +158,7 @@ fn ranked(table: Table) -> [TaskNumber; 64]
 
 // The verdict, the number of heavy tasks and the repeat length of a table.
 pub fn verdict(table: Table) -> VerdictAnswer
-    ensures { result ≡ verdictAnswer (settle (structTests table) (judgementOf (view table))) }
+    ensures { result ≡ verdict_answer (settle (struct_tests table) (judgement_of (view table))) }
 {
     match test_table(table) {
         TableTest::Taken(h) => VerdictAnswer::Judged(judged(table, h)),
@@ -168,7 +168,7 @@ pub fn verdict(table: Table) -> VerdictAnswer
 
 // The priority order of a table.
 pub fn priority(table: Table) -> PriorityAnswer
-    ensures { result ≡ priorityAnswer (settle (structTests table) (order_of (view table))) }
+    ensures { result ≡ priority_answer (settle (struct_tests table) (order_of (view table))) }
 {
     match test_table(table) {
         TableTest::Taken(_) => PriorityAnswer {
