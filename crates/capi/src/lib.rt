@@ -3,6 +3,7 @@
 // A call is taken or refused as a whole: where it is refused, what was lent is left as it was, but for the line of `zq_open`. In C
 // a slice is a pointer and a length, a `&mut` of a number a pointer. The proofs go by each lent part being there and being its own:
 // the caller sees to it that no two parts lent to one call overlap where one of them is written.
+#![tactic(auto)]
 mod answer;
 pub mod program;
 pub mod state;

@@ -1,4 +1,5 @@
 // The worked cases A to G of the paper: for each its letter, and then frames `11` and `12`.
+#![tactic(auto)]
 use libc::STDOUT_FILENO;
 use tables::table::Table;
 use verdicts::table::VerdictAnswer;

@@ -1,4 +1,5 @@
 // Frames of the output, written into the front of a lent part of a buffer.
+#![tactic(auto)]
 pub mod names;
 pub mod pairs;
 pub mod refusal;

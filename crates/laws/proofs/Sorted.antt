@@ -1,6 +1,6 @@
 -- Which numbers stand in a list, and lists in which each number comes before all later ones.
 use Prim.Native.Nat.{ℕ, zero, suc, ◌+◌, ◌≤◌, ◌<◌, zero-le}
-use mathlib.Core.Path.{◌≡◌, refl, sym, ap, ◌∙◌}
+use mathlib.Core.Path.{◌≡◌, refl, sym, ap, subst, ◌∙◌}
 use mathlib.Core.Bool.{Bool, true, false, cond, not}
 use mathlib.Core.Logic.{◌⊎◌, inl, inr, ⊎_elim}
 use mathlib.Core.List.{List, [], ◌∷◌, ◌++◌}
@@ -46,7 +46,7 @@ stands_get_or (x ∷ xs) (suc n) h = stands_later (get_or xs n 0) x xs (stands_g
 pub stands_append : (j : ℕ) (xs ys : List ℕ) → Stands j (xs ++ ys) → Stands j xs ⊎ Stands j ys
 stands_append j [] ys h = inr h
 stands_append j (x ∷ xs) ys h =
-    ⊎_elim (λ e. inl (rw e (stands_here x xs))) (λ l. ⊎_elim (λ g. inl (stands_later j x xs g)) inr (stands_append j xs ys l)) (stands_cases j x (xs ++ ys) h)
+    ⊎_elim (λ e. inl (subst (λ (v : ℕ). Stands v (x ∷ xs)) (sym e) (stands_here x xs))) (λ l. ⊎_elim (λ g. inl (stands_later j x xs g)) inr (stands_append j xs ys l)) (stands_cases j x (xs ++ ys) h)
 
 -- what stands among the numbers from s on is one of them
 pub stands_from : (j s k : ℕ) → Stands j (from s k) → (s ≤ j) × (j < s + k)

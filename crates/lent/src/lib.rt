@@ -1,2 +1,3 @@
 // A table lent as a slice of row structs.
+#![tactic(auto)]
 pub mod rows;

@@ -1,5 +1,7 @@
 // The kinds of number that the rules tell apart, with their limits, and the refusals and verdicts with their numbers.
 // The rules themselves are definitions: `specs/` has them, in the order of the paper.
+#![tactic(auto)]
+
 pub mod kinds;
 pub mod refusal;
 pub mod verdict;

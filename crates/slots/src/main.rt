@@ -1,4 +1,5 @@
 // The program: a table file on standard input, its verdict, order, slots and totals on standard output.
+#![tactic(auto)]
 ghost use Rattle.std.specs.Prelude.{◌≤◌, length};
 ghost use Rattle.reports.specs.Reports.{text_max, Printed};
 

@@ -1,4 +1,5 @@
 // Table files and lists of rows: tested, read and written.
+#![tactic(auto)]
 pub mod file;
 mod frame;
 pub mod header;
