@@ -6,14 +6,14 @@ ghost use Rattle.rules.specs.Answers.{lay};
 ghost use Rattle.digits.specs.Answers.{digit_answer, field_answer, Within};
 
 // What a byte stands for.
-#[derive(Drop)]
+#[derive(Clone, Copy)]
 pub enum DigitAnswer {
     Value(u8),
     NoDigit,
 }
 
 // What a stretch of digits stands for.
-#[derive(Drop)]
+#[derive(Clone, Copy)]
 pub enum FieldAnswer {
     Number(u64),
     NoDigit,

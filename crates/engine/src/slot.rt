@@ -8,7 +8,7 @@ use crate::end::end;
 use crate::place::place;
 
 // The moves in a slot and the misses at its end.
-#[derive(Drop)]
+#[derive(Clone, Copy)]
 pub struct SlotCounts {
     pub moves: u32,
     pub misses: u32,

@@ -9,7 +9,7 @@ use rules::kinds::is_outside;
 use rules::refusal::Refusal;
 use verdicts::share::times;
 
-#[derive(Drop)]
+#[derive(Clone, Copy)]
 pub enum LeadAnswer {
     Taken(i64),
     Refused(Refusal),

@@ -4,7 +4,7 @@ use tables::table::Table;
 
 // The table, its order, the clock, and for each task its left work, last core, units done and units dropped; and the totals of
 // moves and misses. What stands past the last task is 0.
-#[derive(Drop)]
+#[derive(Clone, Copy)]
 pub struct State {
     pub table: Table,
     pub ranks: [TaskNumber; 64],

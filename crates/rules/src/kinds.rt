@@ -13,10 +13,10 @@ pub fn is_outside(x: u32, low: u32, high: u32) -> bool
 }
 
 // How many cores there are: m.
-#[derive(Drop)]
+#[derive(Clone, Copy)]
 pub struct Cores(pub u32);
 
-#[derive(Drop)]
+#[derive(Clone, Copy)]
 pub enum CoresAnswer {
     Within(Cores),
     Outside,
@@ -39,10 +39,10 @@ impl Cores {
 }
 
 // How many tasks there are: n. They are numbered from 1 in table order.
-#[derive(Drop)]
+#[derive(Clone, Copy)]
 pub struct Tasks(pub u32);
 
-#[derive(Drop)]
+#[derive(Clone, Copy)]
 pub enum TasksAnswer {
     Within(Tasks),
     Outside,
@@ -65,10 +65,10 @@ impl Tasks {
 }
 
 // A period T, in slots.
-#[derive(Drop)]
+#[derive(Clone, Copy)]
 pub struct Period(pub u32);
 
-#[derive(Drop)]
+#[derive(Clone, Copy)]
 pub enum PeriodAnswer {
     Within(Period),
     Outside,
@@ -91,10 +91,10 @@ impl Period {
 }
 
 // A repeat length H, in slots.
-#[derive(Drop)]
+#[derive(Clone, Copy)]
 pub struct Repeat(pub u32);
 
-#[derive(Drop)]
+#[derive(Clone, Copy)]
 pub enum RepeatAnswer {
     Within(Repeat),
     Outside,
@@ -117,10 +117,10 @@ impl Repeat {
 }
 
 // An instant of time: a slot, or the boundary before it. The clock is one.
-#[derive(Drop)]
+#[derive(Clone, Copy)]
 pub struct Slot(pub u32);
 
-#[derive(Drop)]
+#[derive(Clone, Copy)]
 pub enum SlotAnswer {
     Within(Slot),
     Outside,
@@ -143,13 +143,13 @@ impl Slot {
 }
 
 // Units of execution: what a job asks for, was given, or lost.
-#[derive(Drop)]
+#[derive(Clone, Copy)]
 pub struct Units(pub u64);
 
 // The number of a task, from 1 in table order.
-#[derive(Drop)]
+#[derive(Clone, Copy)]
 pub struct TaskNumber(pub u8);
 
 // The number of a core, from 1; 0 for none.
-#[derive(Drop)]
+#[derive(Clone, Copy)]
 pub struct CoreNumber(pub u8);

@@ -2,7 +2,7 @@ ghost use Rattle.std.specs.Prelude.{◌≡◌};
 ghost use Rattle.rules.specs.Verdicts.{verdict_byte};
 
 // What the analysis says of a table.
-#[derive(Drop)]
+#[derive(Clone, Copy)]
 pub enum Verdict {
     NotAdmitted,
     Admitted,

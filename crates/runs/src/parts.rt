@@ -9,7 +9,7 @@ use machine::state::State;
 use rules::kinds::{CoreNumber, Slot, Units};
 
 // One entry a task, and 0 past the last: C and T, the slots since the last release, and what the state has of the task.
-#[derive(Drop)]
+#[derive(Clone, Copy)]
 pub struct Parts {
     pub c: [u32; 64],
     pub t: [u32; 64],

@@ -12,14 +12,14 @@ use machine::state::State;
 use rules::kinds::Slot;
 use rules::refusal::Refusal;
 
-#[derive(Drop)]
+#[derive(Clone, Copy)]
 pub enum RunOutcome {
     Taken,
     Refused(Refusal),
 }
 
 // On a refusal the state is the one that was given.
-#[derive(Drop)]
+#[derive(Clone, Copy)]
 pub struct RunAnswer {
     pub outcome: RunOutcome,
     pub state: State,

@@ -9,7 +9,7 @@ use frames::names::names;
 use frames::slot::write_slot;
 
 // The total moves and misses.
-#[derive(Drop)]
+#[derive(Clone, Copy)]
 pub struct Totals {
     pub moves: u64,
     pub misses: u64,

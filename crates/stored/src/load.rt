@@ -28,14 +28,14 @@ const DONES: usize = 40;
 const DROPS: usize = 48;
 
 // Taken, or why not.
-#[derive(Drop)]
+#[derive(Clone, Copy)]
 pub enum Outcome {
     Taken,
     Refused(Refusal),
 }
 
 // A refusal has the empty state beside it.
-#[derive(Drop)]
+#[derive(Clone, Copy)]
 pub struct StateAnswer {
     pub outcome: Outcome,
     pub state: State,

@@ -21,7 +21,7 @@ pub(crate) const ROW_BYTES: usize = 11;
 pub(crate) const LINE_FEED: u8 = 10;
 
 // Two numbers, or none where the line is not the frame that is due.
-#[derive(Drop)]
+#[derive(Clone, Copy)]
 pub(crate) enum PairAnswer {
     Pair(u32, u32),
     BadLine,

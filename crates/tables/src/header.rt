@@ -10,7 +10,7 @@ use rules::kinds::{Cores, CoresAnswer, Tasks, TasksAnswer};
 use rules::refusal::Refusal;
 
 // m and n within their bounds, or the refusal of one with its line.
-#[derive(Drop)]
+#[derive(Clone, Copy)]
 pub enum HeaderAnswer {
     Good(Cores, Tasks),
     Refused(Refusal, u32),

@@ -10,7 +10,7 @@ use rules::kinds::Period;
 use rules::refusal::Refusal;
 
 // A row that is taken, or the refusal of it with its line.
-#[derive(Drop)]
+#[derive(Clone, Copy)]
 pub enum RowAnswer {
     Good(Row),
     Refused(Refusal, u32),

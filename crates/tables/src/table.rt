@@ -6,14 +6,14 @@ use rules::kinds::{Cores, Tasks};
 use rules::refusal::Refusal;
 
 // One row: execution C and period T.
-#[derive(Drop)]
+#[derive(Clone, Copy)]
 pub struct Row {
     pub c: u32,
     pub t: u32,
 }
 
 // m, n, and the rows of tasks 1 to n. The rows past them are 0.
-#[derive(Drop)]
+#[derive(Clone, Copy)]
 pub struct Table {
     pub m: Cores,
     pub n: Tasks,
@@ -21,21 +21,21 @@ pub struct Table {
 }
 
 // Taken, or refused at a line of the file (0 where no line is meant).
-#[derive(Drop)]
+#[derive(Clone, Copy)]
 pub enum Outcome {
     Taken,
     Refused(Refusal, u32),
 }
 
 // A refusal has the empty table beside it.
-#[derive(Drop)]
+#[derive(Clone, Copy)]
 pub struct TableAnswer {
     pub outcome: Outcome,
     pub table: Table,
 }
 
 // Rows that were read or tested, and zeros past them; no row where one is refused.
-#[derive(Drop)]
+#[derive(Clone, Copy)]
 pub(crate) struct RowsAnswer {
     pub outcome: Outcome,
     pub rows: [Row; 64],

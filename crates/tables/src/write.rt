@@ -11,7 +11,7 @@ use crate::{frame, list, repeat};
 use rules::refusal::Refusal;
 
 // How many bytes were written, or why nothing was.
-#[derive(Drop)]
+#[derive(Clone, Copy)]
 pub enum WriteAnswer {
     Written(usize),
     Refused(Refusal),

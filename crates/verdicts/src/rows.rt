@@ -5,7 +5,7 @@ ghost use Rattle.verdicts.specs.Structs.{columns_of};
 use tables::table::Table;
 
 // One entry a task, and past the last task what stands there in the table's rows.
-#[derive(Drop)]
+#[derive(Clone, Copy)]
 pub struct Columns {
     pub c: [u32; 64],
     pub t: [u32; 64],

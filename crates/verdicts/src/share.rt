@@ -7,7 +7,7 @@ ghost use Rattle.verdicts.specs.Columns.{Columns, table_of};
 ghost use Rattle.verdicts.specs.Fractions.{pack_fraction, view_fraction};
 
 // The share from which on a task is heavy, as a numerator and a denominator.
-#[derive(Drop)]
+#[derive(Clone, Copy)]
 pub struct Fraction {
     pub num: u32,
     pub den: u32,

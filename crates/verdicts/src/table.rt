@@ -19,14 +19,14 @@ use tables::row::RowAnswer;
 use tables::table::{Outcome, Row, Table};
 
 // The repeat length of a table that passes all tests, or the refusal of the first test that it fails (at line 0: no file is meant).
-#[derive(Drop)]
+#[derive(Clone, Copy)]
 pub enum TableTest {
     Taken(Repeat),
     Refused(Refusal, u32),
 }
 
 // What frame `11` says.
-#[derive(Drop)]
+#[derive(Clone, Copy)]
 pub struct Judgement {
     pub verdict: Verdict,
     pub heavy: u32,
@@ -34,14 +34,14 @@ pub struct Judgement {
 }
 
 // The judgement, or the refusal of the first test that the table fails.
-#[derive(Drop)]
+#[derive(Clone, Copy)]
 pub enum VerdictAnswer {
     Judged(Judgement),
     Refused(Refusal, u32),
 }
 
 // The task numbers, highest priority first, and zeros past the last; only zeros where the table is refused.
-#[derive(Drop)]
+#[derive(Clone, Copy)]
 pub struct PriorityAnswer {
     pub outcome: Outcome,
     pub ranks: [TaskNumber; 64],
