@@ -22,7 +22,7 @@ use Rattle.tables.specs.contracts.table.Table as TableType
 
 -- a struct that a function is handed has 64 rows
 pub table_full : (t : Table) (vs : List Val) → Is (row TableType.the_type) t vs → length t.rows ≡ 64
-table_full t vs owned = simp length-map at owned.1.1.1.1.0.1.0.1
+table_full t vs owned = owned.1.1.1.1.0.1.0.1
 
 -- how many rows count
 pub length-view : (t : Table) → length t.rows ≡ 64 → length (view t).rows ≡ min t.n.0 64

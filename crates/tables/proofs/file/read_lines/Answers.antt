@@ -1,0 +1,71 @@
+-- `tables::file::read_lines` meets its contract: the header, the rows, and what follows them.
+use Prim.Native.Nat.{ℕ}
+use mathlib.Core.Path.{◌≡◌, sym, ap, ◌∙◌}
+use mathlib.Core.List.{List}
+use native.Mathlib.Omega.{arith}
+use lib.ListN.{drop}
+use Rattle.rules.specs.Files.{read_rows}
+use Rattle.tables.specs.Views.{without_table}
+use Rattle.tables.specs.Rows.{rows_read}
+use Rattle.tables.specs.Headers.{header_outcome}
+use Rattle.tables.specs.declared.table.RowsAnswer.{RowsAnswer}
+use Rattle.laws.proofs.Tails.{tail_lent}
+use Rattle.tables.proofs.Headers.{Headed, header-taken}
+use Rattle.tables.proofs.Files.{no_header, lines_stop, lines-trailing, lines_end}
+use Rattle.tables.proofs.file.read_lines.Goals as goal
+
+pub returns-in_default : goal.returns-in_default
+returns-in_default c =
+    let told = c.in_default.is in
+    c.no_table.ensures
+    ∙ ap without_table (c.outcome.ensures ∙ ap header_outcome told)
+    ∙ no_header _ _ _ (sym c.read_header-h.ensures ∙ told)
+
+pub slice_bounds-read_rows-count : goal.slice_bounds-read_rows-count
+slice_bounds-read_rows-count c =
+    let headed : Headed c.args.s.now c.in-Good.m.0 c.in-Good.n.0 = header-taken _ _ _ (sym c.read_header-h.ensures ∙ c.in-Good.is) in
+    headed.long
+
+pub slice_bounds-read_rows-start : goal.slice_bounds-read_rows-start
+slice_bounds-read_rows-start c =
+    let headed : Headed c.args.s.now c.in-Good.m.0 c.in-Good.n.0 = header-taken _ _ _ (sym c.read_header-h.ensures ∙ c.in-Good.is) in
+    headed.long
+
+pub read_rows-read-requires : goal.read_rows-read-requires
+read_rows-read-requires c =
+    let headed : Headed c.args.s.now c.in-Good.m.0 c.in-Good.n.0 = header-taken _ _ _ (sym c.read_header-h.ensures ∙ c.in-Good.is) in
+    headed.tasks
+
+pub returns-in_default-outcome : goal.returns-in_default-outcome
+returns-in_default-outcome c =
+    let headed : Headed c.args.s.now c.in-Good.m.0 c.in-Good.n.0 = header-taken _ _ _ (sym c.read_header-h.ensures ∙ c.in-Good.is) in
+    let count : ℕ = c.in-Good.n.0 in
+    let text : List ℕ = c.args.s.now in
+    let rows_are : c.read_rows-read.result ≡ rows_read (read_rows 2 count (drop 7 text)) = c.read_rows-read.ensures ∙ ap (λ (t : List ℕ). rows_read (read_rows 2 count t)) (tail_lent text 7 headed.long) in
+    let told = c.in_default-outcome.is in
+    c.no_table-in_default-outcome.ensures
+    ∙ ap without_table told
+    ∙ lines_stop _ _ _ headed _ _ (ap (λ (r : RowsAnswer). r.outcome) (sym rows_are) ∙ told)
+
+pub overflow_add-n : goal.overflow_add-n
+overflow_add-n c =
+    let headed : Headed c.args.s.now c.in-Good.m.0 c.in-Good.n.0 = header-taken _ _ _ (sym c.read_header-h.ensures ∙ c.in-Good.is) in
+    omega (arith, headed.tasks)
+
+pub returns-then-count-s : goal.returns-then-count-s
+returns-then-count-s c =
+    let headed : Headed c.args.s.now c.in-Good.m.0 c.in-Good.n.0 = header-taken _ _ _ (sym c.read_header-h.ensures ∙ c.in-Good.is) in
+    let count : ℕ = c.in-Good.n.0 in
+    let text : List ℕ = c.args.s.now in
+    let rows_are : c.read_rows-read.result ≡ rows_read (read_rows 2 count (drop 7 text)) = c.read_rows-read.ensures ∙ ap (λ (t : List ℕ). rows_read (read_rows 2 count t)) (tail_lent text 7 headed.long) in
+    let told = ap (λ (r : RowsAnswer). r.outcome) (sym rows_are) ∙ c.in-Taken.is in
+    c.refused.ensures ∙ lines-trailing _ _ _ headed told c.if-count-s.true
+
+pub returns : goal.returns
+returns c =
+    let headed : Headed c.args.s.now c.in-Good.m.0 c.in-Good.n.0 = header-taken _ _ _ (sym c.read_header-h.ensures ∙ c.in-Good.is) in
+    let count : ℕ = c.in-Good.n.0 in
+    let text : List ℕ = c.args.s.now in
+    let rows_are : c.read_rows-read.result ≡ rows_read (read_rows 2 count (drop 7 text)) = c.read_rows-read.ensures ∙ ap (λ (t : List ℕ). rows_read (read_rows 2 count t)) (tail_lent text 7 headed.long) in
+    let told = ap (λ (r : RowsAnswer). r.outcome) (sym rows_are) ∙ c.in-Taken.is in
+    rw rows_are (lines_end _ _ _ headed told c.if-count-s.false)

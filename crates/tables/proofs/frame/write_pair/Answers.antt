@@ -1,0 +1,16 @@
+-- `tables::frame::write_pair` meets its contract: three fields and the line feed, one right after the other.
+use Prim.Native.Nat.{◌+◌}
+use Rattle.reading_laws.proofs.Laying.{nothing, field_more, fed}
+use Rattle.tables.proofs.Pairs.{frame_parts}
+use native.Mathlib.Omega.{arith}
+use Rattle.tables.proofs.frame.write_pair.Goals as goal
+
+pub returns : goal.returns
+returns c =
+    let a = c.args in
+    let out = a.out.now in
+    let w = a.width in
+    let one = field_more out (nothing out) 2 a.kind (omega arith) c.write_field.ensures in
+    let two = field_more out one w a.a (omega arith) c.write_field-2.ensures in
+    let three = field_more out two w a.b (omega arith) c.write_field-3.ensures in
+    rw (frame_parts a.kind w a.a a.b) (fed out three (2 + w + w + 1) (omega arith) (omega arith))

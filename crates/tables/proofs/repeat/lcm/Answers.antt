@@ -1,0 +1,31 @@
+-- `tables::repeat::lcm` meets its contract: the product of h and what is left of the period without the greatest common divisor.
+use Prim.Native.Nat.{◌*◌, ◌<◌, zero-le}
+use mathlib.Core.Path.{◌≡◌, sym, ap, ap₂, ◌∙◌}
+use lib.Arith.{lt_of_le-ne}
+use Rattle.rules.specs.Repeat.{lcm}
+use Rattle.rules.specs.Kinds.{repeat_of}
+use Rattle.tables.proofs.Bounds.{repeat_within, repeat_above}
+use Rattle.tables.proofs.Repeats.{gcd_pos, lcm-zero, lcm_gcd}
+use Rattle.tables.proofs.repeat.lcm.Goals as goal
+
+pub returns-then-t-eq0 : goal.returns-then-t-eq0
+returns-then-t-eq0 c =
+    let h = c.args.h in
+    rw (c.if-t-eq0.true, lcm-zero h.0) (sym (repeat_within h.0 c.requires.positive c.requires.bounded))
+
+pub nonzero_div-t : goal.nonzero_div-t
+nonzero_div-t c = gcd_pos _ _ _ c.requires.positive c.gcd-g.ensures
+
+pub returns-then-wide-m : goal.returns-then-wide-m
+returns-then-wide-m c =
+    let product : c.wide.result * c.wide-2.result ≡ lcm c.args.h.0 c.args.t = let gcd = c.gcd-g in
+        let positive : 0 < c.args.t = lt_of_le-ne zero-le (λ e. c.if-t-eq0.false (sym e)) in
+        ap₂ ◌*◌ c.wide.ensures c.wide-2.ensures ∙ sym (lcm_gcd _ _ gcd.result c.requires.positive gcd.ensures positive) in
+    sym (repeat_above _ (rw (product, c.wide-3.ensures) at c.if-wide-m.true))
+
+pub returns : goal.returns
+returns c =
+    let product : c.wide.result * c.wide-2.result ≡ lcm c.args.h.0 c.args.t = let gcd = c.gcd-g in
+        let positive : 0 < c.args.t = lt_of_le-ne zero-le (λ e. c.if-t-eq0.false (sym e)) in
+        ap₂ ◌*◌ c.wide.ensures c.wide-2.ensures ∙ sym (lcm_gcd _ _ gcd.result c.requires.positive gcd.ensures positive) in
+    c.new.ensures ∙ ap repeat_of product
