@@ -1,6 +1,5 @@
-// A list of rows lent as a slice of row structs. The borrow checker covers no function over such a slice, so `take_rows` alone is walked by
-// hand: it copies the rows, one by one, into places of its own, and leaves all else to functions that are covered. There is one place
-// more than a table may have rows, so that a list that is too long is too long in its places too.
+// A list of rows lent as a slice of row structs: `take_rows` copies the rows, one by one, into places of its own, and leaves all else to the
+// functions over pairs. There is one place more than a table may have rows, so that a list that is too long is too long in its places too.
 ghost use Rattle.std.specs.Prelude.{◌≡◌, map, min, ◌≤◌, ◌<◌, take, set};
 ghost use Rattle.rules.specs.Tables.{take_list};
 ghost use Rattle.tables.specs.Views.{view_row, table_answer};
@@ -54,7 +53,8 @@ pub fn take_rows(m: u32, rows: &[Row]) -> TableAnswer
     let mut pairs = no_pairs();
     let mut i: usize = 0;
     while i < n {
-        pairs = put(pairs, i, rows[i]);
+        let next = put(pairs, i, rows[i]);
+        pairs = next;
         i = i + 1;
     }
     take_pairs(m, pairs, n)
