@@ -1,5 +1,6 @@
 // Table files and lists of rows: tested, read and written.
 #![tactic(auto)]
+
 pub mod file;
 mod frame;
 pub mod header;

@@ -1,5 +1,4 @@
 -- `tables::list::test_rows` meets its contract: the tests that are left are the first of which one can hold.
-use Prim.Native.Nat.{◌-◌}
 use mathlib.Core.Path.{sym, ap, ◌∙◌}
 use Rattle.tables.specs.Views.{pack_rows, without_rows}
 use Rattle.tables.specs.Rows.{row_outcome}

@@ -19,13 +19,13 @@ nonzero_div-t c = gcd_pos _ _ _ c.requires.positive c.gcd-g.ensures
 pub returns-then-wide-m : goal.returns-then-wide-m
 returns-then-wide-m c =
     let product : c.wide.result * c.wide-2.result ≡ lcm c.args.h.0 c.args.t = let gcd = c.gcd-g in
-        let positive : 0 < c.args.t = lt_of_le-ne zero-le (λ e. c.if-t-eq0.false (sym e)) in
-        ap₂ ◌*◌ c.wide.ensures c.wide-2.ensures ∙ sym (lcm_gcd _ _ gcd.result c.requires.positive gcd.ensures positive) in
+    let positive : 0 < c.args.t = lt_of_le-ne zero-le (λ e. c.if-t-eq0.false (sym e)) in
+    ap₂ ◌*◌ c.wide.ensures c.wide-2.ensures ∙ sym (lcm_gcd _ _ gcd.result c.requires.positive gcd.ensures positive) in
     sym (repeat_above _ (rw (product, c.wide-3.ensures) at c.if-wide-m.true))
 
 pub returns : goal.returns
 returns c =
     let product : c.wide.result * c.wide-2.result ≡ lcm c.args.h.0 c.args.t = let gcd = c.gcd-g in
-        let positive : 0 < c.args.t = lt_of_le-ne zero-le (λ e. c.if-t-eq0.false (sym e)) in
-        ap₂ ◌*◌ c.wide.ensures c.wide-2.ensures ∙ sym (lcm_gcd _ _ gcd.result c.requires.positive gcd.ensures positive) in
+    let positive : 0 < c.args.t = lt_of_le-ne zero-le (λ e. c.if-t-eq0.false (sym e)) in
+    ap₂ ◌*◌ c.wide.ensures c.wide-2.ensures ∙ sym (lcm_gcd _ _ gcd.result c.requires.positive gcd.ensures positive) in
     c.new.ensures ∙ ap repeat_of product

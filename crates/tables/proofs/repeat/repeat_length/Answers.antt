@@ -3,7 +3,6 @@ use lib.ListN.{length}
 use Rattle.tables.specs.Views.{view}
 use Rattle.tables.proofs.Views.{table_full, length-view}
 use Rattle.tables.proofs.Repeats.{repeating_starts, repeating_goes_on, repeating_stops, repeating_ends}
-use Prim.Native.Nat.{◌-◌}
 use mathlib.Core.Path.{◌≡◌, sym, ◌∙◌}
 use Rattle.tables.proofs.repeat.repeat_length.Goals as goal
 

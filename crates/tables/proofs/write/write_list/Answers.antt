@@ -47,8 +47,8 @@ returns-then-out-place-2 c =
     let told : (table_answer (take_list c.args.m rows)).outcome ≡ Outcomes.Taken = ap outcome-of (sym c.take_list-taken.ensures) ∙ c.in-Taken.is in
     let table_is : c.take_list-taken.result.table ≡ pack (record { m = c.args.m; rows = rows }) = ap table-in c.take_list-taken.ensures ∙ taken-table _ _ told in
     let count : c.rows_of.result ≡ length rows = c.rows_of.ensures
-        ∙ ap (λ (t : Table). min t.n.0 64) table_is
-        ∙ omega (arith, taken-few c.args.m rows told) in
+    ∙ ap (λ (t : Table). min t.n.0 64) table_is
+    ∙ omega (arith, taken-few c.args.m rows told) in
     no_room _ _ told _ _ (omega (arith, count))
 
 pub write_table-requires : goal.write_table-requires
@@ -58,8 +58,8 @@ write_table-requires c =
     let told : (table_answer (take_list c.args.m rows)).outcome ≡ Outcomes.Taken = ap outcome-of (sym c.take_list-taken.ensures) ∙ c.in-Taken.is in
     let table_is : c.take_list-taken.result.table ≡ pack (record { m = c.args.m; rows = rows }) = ap table-in c.take_list-taken.ensures ∙ taken-table _ _ told in
     let count : c.rows_of.result ≡ length rows = c.rows_of.ensures
-        ∙ ap (λ (t : Table). min t.n.0 64) table_is
-        ∙ omega (arith, taken-few c.args.m rows told) in
+    ∙ ap (λ (t : Table). min t.n.0 64) table_is
+    ∙ omega (arith, taken-few c.args.m rows told) in
     let viewed : view c.take_list-taken.result.table ≡ record { m = c.args.m; rows = rows } = ap view table_is ∙ view-pack _ in
     let args = c.args in
     omega (arith, count, ap (λ (t : Tables.Table). length t.rows) viewed, length-take (length args.out.now - args.place) (drop args.place args.out.now), length-drop args.place args.out.now)
@@ -71,8 +71,8 @@ returns c =
     let told : (table_answer (take_list c.args.m rows)).outcome ≡ Outcomes.Taken = ap outcome-of (sym c.take_list-taken.ensures) ∙ c.in-Taken.is in
     let table_is : c.take_list-taken.result.table ≡ pack (record { m = c.args.m; rows = rows }) = ap table-in c.take_list-taken.ensures ∙ taken-table _ _ told in
     let count : c.rows_of.result ≡ length rows = c.rows_of.ensures
-        ∙ ap (λ (t : Table). min t.n.0 64) table_is
-        ∙ omega (arith, taken-few c.args.m rows told) in
+    ∙ ap (λ (t : Table). min t.n.0 64) table_is
+    ∙ omega (arith, taken-few c.args.m rows told) in
     let viewed : view c.take_list-taken.result.table ≡ record { m = c.args.m; rows = rows } = ap view table_is ∙ view-pack _ in
     let args = c.args in
     let out = args.out.now in

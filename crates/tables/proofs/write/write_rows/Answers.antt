@@ -1,5 +1,4 @@
 -- `tables::write::write_rows` meets its contract: the lines that are written stand at the front, one right after the other.
-use Prim.Native.Nat.{◌-◌}
 use mathlib.Core.Path.{◌≡◌, refl, sym, ◌∙◌}
 use lib.ListN.{length}
 use Rattle.reading_laws.proofs.Laying.{no_piece, piece_room}
