@@ -1,6 +1,6 @@
 -- The loop of `keep`: who keeps its core, and who is left over.
 use Prim.Native.Nat.{ℕ, zero, suc, ◌+◌, ◌-◌, ◌≤◌, ◌<◌, zero-le}
-use mathlib.Core.Path.{◌≡◌, refl, sym, ap, ◌∙◌}
+use mathlib.Core.Path.{◌≡◌, refl, sym, ap, subst, ◌∙◌}
 use mathlib.Core.Bool.{true, false, cond}
 use mathlib.Core.Logic.{⊎_elim}
 use mathlib.Core.List.{List, [], ◌∷◌, ◌++◌, append-nil}
@@ -97,11 +97,13 @@ left-unplaced last (i ∷ is) cores w =
     (λ (e : free cores (at last i) ≡ true).
     left_takes last is cores i e
     ∙ left-unplaced last is (seat cores (at last i) i) (waiting_takes last is cores i w e)
-    ∙ rw (keep_takes last is cores i e, takes_placed last is cores i w e))
+    ∙ subst (λ (l : List ℕ). unplaced (keep_cores last is (seat cores (at last i) i)) is ≡ unplaced l (i ∷ is)) (sym (keep_takes last is cores i e))
+    (rw (takes_placed last is cores i w e)))
     (λ (e : free cores (at last i) ≡ false).
     left-passes last is cores i e
     ∙ ap (λ (l : List ℕ). i ∷ l) (left-unplaced last is cores (waiting_passes last is cores i w))
-    ∙ rw (keep_passes last is cores i e, passes-unplaced last is cores i w))
+    ∙ subst (λ (l : List ℕ). i ∷ unplaced (keep_cores last is cores) is ≡ unplaced l (i ∷ is)) (sym (keep_passes last is cores i e))
+    (rw (passes-unplaced last is cores i w)))
     (decide (free cores (at last i)))
 
 -- each last core is none or one of the cores
