@@ -1,0 +1,7 @@
+-- `verdicts::limit::share` meets its contract.
+use Rattle.rules.specs.Verdicts.{share}
+use Rattle.verdicts.proofs.limit.share.Goals as goal
+
+pub returns : goal.returns
+unfolding share
+returns c = c.times.ensures
