@@ -12,10 +12,10 @@ pub state_full : (s : State) (vs : List Val) → Is (row StateType.the_type) s v
 state_full s vs g =
     let fields = g.1.1 in
     record {
-      rows = simp length-map at fields.0.1.1.1.1.0.1.0.1;
-      ranks = simp length-map at fields.1.0.1.0.1;
-      left = simp length-map at fields.1.1.1.0.1.0.1;
-      last = simp length-map at fields.1.1.1.1.0.1.0.1;
-      done = simp length-map at fields.1.1.1.1.1.0.1.0.1;
-      dropped = simp length-map at fields.1.1.1.1.1.1.0.1.0.1;
+      rows = fields.0.1.1.1.1.0.1.0.1;
+      ranks = fields.1.0.1.0.1;
+      left = fields.1.1.1.0.1.0.1;
+      last = fields.1.1.1.1.0.1.0.1;
+      done = fields.1.1.1.1.1.0.1.0.1;
+      dropped = fields.1.1.1.1.1.1.0.1.0.1;
     }
