@@ -4,6 +4,7 @@ pub mod OneSlot
 pub mod Shares
 pub mod Within
 pub mod Numbers
+pub mod Heavies
 pub mod Theorem
 pub mod Prefixes
 pub mod Chosen

@@ -9,7 +9,7 @@ use native.Mathlib.Omega.{arith}
 use borrow.Author.Tests.{eqb-true}
 use lib.Dec.{ltb}
 use lib.ListN.{length, get_or, replicate, length-replicate}
-use Rattle.laws.specs.Lists.{at, numbers}
+use Rattle.laws.specs.Lists.{numbers}
 use Rattle.laws.proofs.Tests.{decide}
 use Rattle.laws.proofs.Each.{count_cong, ext_at, at-replicate}
 use Rattle.laws.proofs.Filters.{count_as_sum}

@@ -8,12 +8,9 @@ use native.Mathlib.Omega.{arith}
 use Rattle.bound.proofs.SumBefore.{sum-suc, sum_scale, sum-le, sum_gain, sum_shorter, sum_smaller}
 use Rattle.bound.specs.Setting.{Jobs, Tasks, Schedule, Conditions, tasks, light_at, work, light_work, light_share}
 use Rattle.bound.proofs.Numbers.{no_short_job, no_lag, given_is_ahead, lag_later, jobs_in_shares, all_in_shares}
-use Rattle.bound.proofs.Bookkeeping.{job_most, jobs-most, job_pending, jobs_met, job_runs}
-use Rattle.bound.proofs.OneSlot.{first_runs, stretch_full}
-
--- the job a of the task of rank k was given its demand by its deadline
-abbrev pub Met : {x : Tasks} → Schedule x → ℕ → ℕ → Type 0
-Met {x} c k a = work c k (suc a * x.period k) ≡ x.demand k + work c k (a * x.period k)
+use Rattle.bound.proofs.Bookkeeping.{job_most, jobs-most, job_pending, jobs_met}
+use Rattle.bound.proofs.OneSlot.{stretch_full}
+use Rattle.bound.proofs.Heavies.{Met, heavy_met}
 
 -- at boundary t the first light tasks, however many, were given no less than their shares
 abbrev pub Ahead : {x : Tasks} → Schedule x → ℕ → Type 0
@@ -21,16 +18,6 @@ Ahead {x} c t = (j : ℕ) → j ≤ x.lights → t * light_share x j ≤ x.repea
 
 module _ {x : Tasks} (c : Schedule x) {b g : ℕ} (w : Conditions x b g) where
   -- ---- no miss at a deadline, where the light tasks are ahead at the boundaries before it
-
-  heavy_met : (k a : ℕ) → k < x.heavies → Met c k a
-  heavy_met k a h =
-      let k' : k < tasks x = omega arith in
-      rw (suc-mul a (x.period k))
-      (omega (
-        arith,
-        job_runs (c.jobs k k') (λ s. first_runs c k s k' (omega (arith, w.spare))) a (x.period k) (le_refl (x.period k)),
-        x.fitting k k',
-      ))
 
   -- an earlier light task has been given little more than its share at a deadline of light task j
   late : (i j a : ℕ) → i < j → j < x.lights
@@ -83,7 +70,7 @@ module _ {x : Tasks} (c : Schedule x) {b g : ℕ} (w : Conditions x b g) where
   met : (k a : ℕ) → k < tasks x → ((t : ℕ) → t < suc a * x.period k → Ahead c t) → Met c k a
   met k a h past =
       elim (dec_lt k x.heavies) [
-        | yes l ↦ heavy_met k a l
+        | yes l ↦ heavy_met c w k a l
         | no l ↦
             let e : x.heavies + (k - x.heavies) ≡ k = omega arith in
             rw e at (light_met (k - x.heavies) a (omega arith) (rw e past))

@@ -1,5 +1,5 @@
 -- What the verdict "admitted" promises of a run of a table with any order and placings that obey, whoever made it. All is said in
--- the rules' definitions. `proofs/on_time.antt` proves it.
+-- the rules' definitions. `proofs/OnTime.antt` proves it.
 use Rattle.std.specs.Prelude.{ℕ, ◌*◌, ◌≤◌, ◌<◌, ◌≡◌, List, T, take, replicate}
 use Rattle.rules.specs.Tables.{Table, size, accepts}
 use Rattle.rules.specs.Repeat.{repeat_length}

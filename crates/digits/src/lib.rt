@@ -1,5 +1,6 @@
 // Lowercase hexadecimal digits and big-endian fields of them: read out of a text, and written into one.
 #![tactic(auto)]
+
 ghost use Rattle.std.specs.Prelude.{◌≡◌, cond, ◌++◌, ◌+◌, ◌%◌, ◌≤◌, ◌<◌, ltb, length, take, drop};
 ghost use Rattle.laws.specs.Digits.{digit as digitOf, digit_value, value, field};
 ghost use Rattle.rules.specs.Answers.{lay};

@@ -1,5 +1,6 @@
 // Frames of the output, written into the front of a lent part of a buffer.
 #![tactic(auto)]
+
 pub mod names;
 pub mod pairs;
 pub mod refusal;

@@ -4,7 +4,7 @@ use Rattle.laws.specs.Lists.{sum, at, join}
 use Rattle.rules.specs.Rows.{Row}
 use Rattle.rules.specs.Tables.{Table, row_of}
 use Rattle.rules.specs.Repeat.{repeat_length}
-use Rattle.rules.specs.Verdicts.{verdict, verdict_byte, heavy_count, order}
+use Rattle.rules.specs.Verdicts.{verdict, verdict_byte, heavy_count}
 use Rattle.rules.specs.States.{State}
 use Rattle.rules.specs.Slots.{Shown, slot}
 use Rattle.rules.specs.Frames as Frames

@@ -73,20 +73,26 @@ module _ {st : State} (kept : Kept st) where
       in
       (ranks_within (kept-priority kept) (suc i) ranked).1
 
+  -- all that a slot shows fits where its number does
+  numbers-fit : st.clock < 16 ^ 8 → Fits (Frames.slot st.table.m).widths (slot_numbers (slot st).shown)
+  numbers-fit number =
+      rw (slot_width st) at
+      (shown-fits (slot st).shown
+      (omega (arith, slot-number st))
+      (λ i s. omega (arith, core_high i s))
+      (omega (arith, slot-moves st, slot_width st))
+      (omega (arith, slot-misses st)))
+
   module _ (soon : st.clock < clock_max) where
     pub slot-fits : Fits (Frames.slot st.table.m).widths (slot_numbers (slot st).shown)
-    slot-fits =
-        rw (slot_width st) at
-        (shown-fits (slot st).shown
-        (omega (arith, slot-number st))
-        (λ i s. omega (arith, core_high i s))
-        (omega (arith, slot-moves st, slot_width st))
-        (omega (arith, slot-misses st)))
+    slot-fits = numbers-fit (omega arith)
 
     pub slot_read : (rest : List ℕ)
         → read_frame (Frames.slot st.table.m) (slot_line (slot st).shown ++ rest) ≡ some (record { got = slot_numbers (slot st).shown; rest = rest })
     unfolding slot_line
-    slot_read rest = rw (slot_width st) (read-frame (Frames.slot st.table.m) (slot_numbers (slot st).shown) rest (lit< tt) slot-fits)
+    slot_read rest =
+        rw (slot_width st)
+        (read-frame (Frames.slot st.table.m) (slot_numbers (slot st).shown) rest (lit< tt) (numbers-fit (omega arith)))
 
   module _ (soon : st.clock ≤ clock_max) where
     -- no task has dropped more than was released

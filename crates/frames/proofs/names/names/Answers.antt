@@ -1,5 +1,4 @@
 -- `frames::names::names` meets its contract: a walk along the bytes that puts down two digits for each.
-use Prim.Native.Nat.{◌-◌}
 use Rattle.frames.proofs.Lookup.{none_made, one_made, all_made}
 use Rattle.frames.proofs.names.names.Goals as goal
 

@@ -1,5 +1,4 @@
 -- `frames::pairs::write_pairs` meets its contract: a walk along the values that lays two digits for each.
-use Prim.Native.Nat.{◌-◌}
 use Rattle.frames.proofs.PairLoop.{start, turn, ended}
 use native.Mathlib.Omega.{arith}
 use Rattle.frames.proofs.pairs.write_pairs.Goals as goal

@@ -1,0 +1,11 @@
+-- `runs::parts::together` meets its contract: a walk along the tasks that puts each one's numbers into the struct.
+use Prim.Native.Nat.{◌-◌}
+use Rattle.runs.proofs.Parting.{join_turn, join-ended}
+use Rattle.runs.proofs.parts.together.Goals as goal
+
+pub loop-i-preserved : goal.loop-i-preserved
+loop-i-preserved c =
+    join_turn c.loop-i.invariant c.loop-i-test.true c.wide.ensures c.wide-in-loop-i.ensures c.wide-in-loop-i-2.ensures
+
+pub returns : goal.returns
+returns c = join-ended _ _ _ _ c.loop-i.invariant c.loop-i-test.false
