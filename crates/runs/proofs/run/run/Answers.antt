@@ -12,16 +12,6 @@ use Rattle.runs.specs.Slots.{frame_length}
 use Rattle.runs.proofs.Answering.{refuse_state, in_bounds, few-cores, short_is, refuse_clock, refuse_room, take-run}
 use Rattle.runs.proofs.run.run.Goals as goal
 
--- what the tests of time and of room tell
-late : (c : goal.After-is_short-short) {v : Bool} → c.is_past-late.result ≡ v → ltb clock_max ((entry c).args.s.clock.0 + (entry c).args.count) ≡ v
-late c e = sym c.is_past-late.ensures ∙ e
-
-short : (c : goal.After-is_short-short) {v : Bool} → c.is_short-short.result ≡ v
-    → ltb (length (entry c).args.out.now) ((entry c).args.at + (entry c).args.count * frame_length (entry c).args.s.table.m.0) ≡ v
-short c e =
-    let a = (entry c).args in
-    short_is a.s a.count a.out.now a.at (good c) c.is_short-short.ensures c.length_of.ensures e
-
 pub returns-then-not-is_formed : goal.returns-then-not-is_formed
 returns-then-not-is_formed c =
     refuse_state _ _ _ _ (sym c.is_formed.ensures ∙ c.if-not-is_formed.true) c.refused.ensures
@@ -38,21 +28,18 @@ length_of-requires c =
 
 pub returns-then-late : goal.returns-then-late
 returns-then-late c =
-    let entry : tie.Start = c in
     let good : T (formed c.args.s) = to_T (sym c.is_formed.ensures ∙ c.if-not-is_formed.false) in
-    let a = entry.args in
-    refuse_clock a.s a.count a.out.now a.at good (late c c.if-late.true) c.refused-then-late.ensures
+    let a = c.args in
+    refuse_clock a.s a.count a.out.now a.at good (sym c.is_past-late.ensures ∙ c.if-late.true) c.refused-then-late.ensures
 
 pub returns-then-short : goal.returns-then-short
 returns-then-short c =
-    let entry : tie.Start = c in
     let good : T (formed c.args.s) = to_T (sym c.is_formed.ensures ∙ c.if-not-is_formed.false) in
-    let a = entry.args in
-    refuse_room a.s a.count a.out.now a.at good (late c c.if-late.false) (short c c.if-short.true) c.refused-then-short.ensures
+    let a = c.args in
+    refuse_room a.s a.count a.out.now a.at good (sym c.is_past-late.ensures ∙ c.if-late.false) (short_is a.s a.count a.out.now a.at good c.is_short-short.ensures c.length_of.ensures c.if-short.true) c.refused-then-short.ensures
 
 pub returns : goal.returns
 returns c =
-    let entry : tie.Start = c in
     let good : T (formed c.args.s) = to_T (sym c.is_formed.ensures ∙ c.if-not-is_formed.false) in
-    let a = entry.args in
-    take-run a.s a.count a.out.now a.at good (late c c.if-late.false) (short c c.if-short.false) c.run_formed.ensures
+    let a = c.args in
+    take-run a.s a.count a.out.now a.at good (sym c.is_past-late.ensures ∙ c.if-late.false) (short_is a.s a.count a.out.now a.at good c.is_short-short.ensures c.length_of.ensures c.if-short.false) c.run_formed.ensures

@@ -49,7 +49,7 @@ loop-k-preserved c =
     let run = still c.requires c.release.ensures in
     let wide = (length-take-le _ _ (few-cores c.requires)) in
     turn run c.loop-k.invariant c.loop-k-test.true wide c.slot-shown.ensures c.frame_length-width.ensures
-    (rw (front-placing run c.loop-k.invariant c.loop-k-test.true wide c.slot-shown.ensures _) c c.write_slot.ensures)
+    (rw (front-placing run c.loop-k.invariant c.loop-k-test.true wide c.slot-shown.ensures _) at c.write_slot.ensures)
 
 pub slice_bounds-none-end : goal.slice_bounds-none-end
 slice_bounds-none-end c = few-tasks c.requires

@@ -7,19 +7,16 @@ use Rattle.stored.proofs.load.decode.Goals as goal
 
 pub returns : goal.returns
 returns c =
-    let ranks = c in
-    let rows = ranks in
-    let start = rows in
-    let bs = start.args.bytes.now in
-    placed-decoded bs start.requires (record {
-      m = byte_cell bs 0 (omega (arith, start.requires));
+    let bs = c.args.bytes.now in
+    placed-decoded bs c.requires (record {
+      m = byte_cell bs 0 (omega (arith, c.requires));
       n_is = refl;
-      rows = rows.rows.ensures;
-      ranks = ranks.ranks.ensures;
-      c = c.read_bytes.ensures.value;
-      c = c.units.ensures;
-      c = c.cores.ensures;
-      c = c.units-2.ensures;
+      rows = c.rows.ensures;
+      ranks = c.ranks.ensures;
+      clock = c.read_bytes.ensures.value;
+      left = c.units.ensures;
+      last = c.cores.ensures;
+      done = c.units-2.ensures;
       dropped = c.units-3.ensures;
       moves = c.read_bytes-2.ensures.value;
       misses = c.read_bytes-3.ensures.value;

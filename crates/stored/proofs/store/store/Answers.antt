@@ -18,14 +18,14 @@ returns-then-not-is_formed c = store_ill _ _ _ (sym c.is_formed.ensures ∙ c.if
 
 pub returns-then-out-at : goal.returns-then-out-at
 returns-then-out-at c =
-    let full : Full c.args.s = state_full c.args.s _ c.good.0 in
+    let full : Full c.args.s = state_full c.args.s _ c.well_formed.0 in
     let good : formed c.args.s ≡ true = sym c.is_formed.ensures ∙ c.if-not-is_formed.false in
     let few : tasks c.args.s ≤ tasks_max = padded-few _ (formed-says _ good).0 in
     store_short _ c.args.out.now _ full good (omega (arith, few, c.if-out-at.true))
 
 pub returns-then-out-at-2 : goal.returns-then-out-at-2
 returns-then-out-at-2 c =
-    let full : Full c.args.s = state_full c.args.s _ c.good.0 in
+    let full : Full c.args.s = state_full c.args.s _ c.well_formed.0 in
     let good : formed c.args.s ≡ true = sym c.is_formed.ensures ∙ c.if-not-is_formed.false in
     let few : tasks c.args.s ≤ tasks_max = padded-few _ (formed-says _ good).0 in
     store_short _ c.args.out.now _ full good (omega (arith, few, c.if-out-at.false, c.if-out-at-2.true))
@@ -38,12 +38,12 @@ write_state-requires c =
     let at = c.args.at in
     record {
       few = few;
-      c = omega (arith, c.if-out-at.false, c.if-out-at-2.false, length-take (length out - at) (drop at out), length-drop at out);
+      room = omega (arith, c.if-out-at.false, c.if-out-at-2.false, length-take (length out - at) (drop at out), length-drop at out);
     }
 
 pub returns : goal.returns
 returns c =
-    let full : Full c.args.s = state_full c.args.s _ c.good.0 in
+    let full : Full c.args.s = state_full c.args.s _ c.well_formed.0 in
     let good : formed c.args.s ≡ true = sym c.is_formed.ensures ∙ c.if-not-is_formed.false in
     let few : tasks c.args.s ≤ tasks_max = padded-few _ (formed-says _ good).0 in
     store-written _ c.args.out.now _ full good _ (omega (arith, few, c.if-out-at.false, c.if-out-at-2.false)) c.write_state.ensures
