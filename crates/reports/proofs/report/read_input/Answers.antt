@@ -1,0 +1,13 @@
+-- `reports::report::read_input` meets its contract: the part that is read is the start of the input.
+use Prim.Native.Nat.{ℕ}
+use mathlib.Core.Path.{ap, ◌∙◌}
+use mathlib.Core.List.{List}
+use native.Mathlib.Omega.{arith}
+use Rattle.rules.specs.Files.{read_file}
+use Rattle.tables.specs.Views.{table_answer}
+use Rattle.reports.proofs.Reporting.{start_is}
+use Rattle.reports.proofs.report.read_input.Goals as goal
+
+pub returns : goal.returns
+returns c =
+    c.read_file.ensures ∙ ap (λ (s : List ℕ). table_answer (read_file s)) (start_is c.args.input.now c.least-end.result (omega (arith, c.least-end.ensures)))

@@ -1,0 +1,8 @@
+-- `reports::table::slots_of` meets its contract: an H above its bound is above the bound of the slots.
+use native.Mathlib.Omega.{arith}
+use Rattle.tables.specs.Views.{view}
+use Rattle.reports.proofs.Texts.{above}
+use Rattle.reports.proofs.table.slots_of.Goals as goal
+
+pub returns-in_default : goal.returns-in_default
+returns-in_default c = omega (arith, above (view c.args.t).rows c.repeat_length.ensures c.in_default.is)
