@@ -1,4 +1,4 @@
-# make test     prove every crate from nothing, try the edits that must be refused, then try the library and the program that were built
+# make test     rt ci: prove every crate from nothing, try the edits that must be refused; then try the library and the program that were built
 # make check    prove what changed since the last time
 # make lib      the proved library for C: target/lib/libzitherquasar.a and target/include/zitherquasar.h
 # make run      the proved program on case M; make run TABLE=file on a table file
@@ -17,6 +17,7 @@ SEED := 1
 LIBRARY := target/lib/libzitherquasar.a
 INCLUDE := target/include
 PROGRAM := target/bin/slots
+SOURCES = crates.txt $(shell find crates -name out -prune -o \( -name '*.rt' -o -name '*.antt' \) -print)
 SECOND := $(CARGO) run --release --offline --quiet --manifest-path second/Cargo.toml --
 LINKED := ZQ_LIBRARY="$(abspath $(LIBRARY))" $(SECOND)
 
@@ -29,22 +30,26 @@ test: need-rt need-cc need-cargo
 	@RT="$(RT)" .ci/parts
 
 check: need-rt
-	@$(RT) check
+	@$(RT) all check
 
 lib: need-rt $(LIBRARY) $(INCLUDE)/zitherquasar.h
 
-# rt proves the crate anew whenever it writes the archive.
-$(LIBRARY): crates.txt $(shell find crates -name '*.rt' -o -name '*.antt')
-	@$(RT) staticlib capi >&2
+$(LIBRARY): $(SOURCES)
+	@cd crates/capi_c && $(RT) lib >&2
 	@mkdir -p $(@D)
-	@cp target/staticlib/libcapi.a $@
+	@cp crates/capi_c/out/libcapi_c.a $@
 
 $(INCLUDE)/zitherquasar.h: include/zitherquasar.h
 	@mkdir -p $(@D)
 	@cp $< $@
 
-program: need-rt
-	@$(RT) check slots >&2
+program: need-rt $(PROGRAM)
+
+# rt leaves a program that it has proved and built, and runs it.
+$(PROGRAM): $(SOURCES)
+	@cd crates/slots && $(RT) run </dev/null >/dev/null
+	@mkdir -p $(@D)
+	@cp crates/slots/out/slots $@
 
 run: program
 	@$(PROGRAM) < "$(TABLE)"

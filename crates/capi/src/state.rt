@@ -1,7 +1,7 @@
 // Stored states: run, and asked for the totals and for a task's lead. Bytes that are no state are loaded as the empty state, and
 // whatever is asked of that is refused with 9, as it is to be of the bytes.
 ghost use Rattle.std.specs.Prelude.{◌≡◌};
-ghost use Rattle.capi.specs.Calls.{reply, replied, filled, run as ranWith, run_stored, give_totals, give_lead};
+ghost use Rattle.capi.specs.Calls.{reply, replied, filled, run as ran_with, run_stored, give_totals, give_lead};
 
 use crate::answer::{number_of, settle};
 use machine::lead::LeadAnswer;
@@ -12,15 +12,8 @@ use stored::store::store;
 
 // Runs a count of slots: their frames go into `out` from place `at` on, the bytes of the state after them become `state`.
 // They are as many as those of the state before, so that storing them is not refused.
-#[unsafe(no_mangle)]
-pub extern "C" fn zq_run(
-    state: &mut [u8],
-    count: u32,
-    out: &mut [u8],
-    at: usize,
-    size: &mut usize,
-) -> u32
-    ensures { reply result (ranWith state.new out.new size.new) ≡ replied (ranWith state.old out.old size.old) (run_stored state.old count out.old at) }
+pub fn zq_run(state: &mut [u8], count: u32, out: &mut [u8], at: usize, size: &mut usize) -> u32
+    ensures { reply result (ran_with state.new out.new size.new) ≡ replied (ran_with state.old out.old size.old) (run_stored state.old count out.old at) }
 {
     let s = load(state).state;
     let ran = run(s, count, out, at);
@@ -37,8 +30,7 @@ pub extern "C" fn zq_run(
 }
 
 // Writes frame `14` of a state, from place `at` on.
-#[unsafe(no_mangle)]
-pub extern "C" fn zq_totals(state: &[u8], out: &mut [u8], at: usize, size: &mut usize) -> u32
+pub fn zq_totals(state: &[u8], out: &mut [u8], at: usize, size: &mut usize) -> u32
     ensures { reply result (filled out.new size.new) ≡ replied (filled out.old size.old) (give_totals state.now out.old at) }
 {
     let s = load(state).state;
@@ -46,8 +38,7 @@ pub extern "C" fn zq_totals(state: &[u8], out: &mut [u8], at: usize, size: &mut 
 }
 
 // The lead of a task becomes `lead`.
-#[unsafe(no_mangle)]
-pub extern "C" fn zq_lead(state: &[u8], task: u32, lead: &mut i64) -> u32
+pub fn zq_lead(state: &[u8], task: u32, lead: &mut i64) -> u32
     ensures { reply result lead.new ≡ replied lead.old (give_lead state.now task) }
 {
     let s = load(state).state;

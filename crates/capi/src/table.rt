@@ -38,8 +38,7 @@ fn open_table(taken: TableAnswer, state: &mut [u8]) -> WriteAnswer
 
 // Opens a table file: its fresh state becomes the front of `state`, and `size` the number of its bytes. `line` is the line of a
 // refusal of the file, else 0.
-#[unsafe(no_mangle)]
-pub extern "C" fn zq_open(file: &[u8], state: &mut [u8], size: &mut usize, line: &mut u32) -> u32
+pub fn zq_open(file: &[u8], state: &mut [u8], size: &mut usize, line: &mut u32) -> u32
     ensures { read (reply result (filled state.new size.new)) line.new ≡ opened (filled state.old size.old) (open_file file.now state.old) }
 {
     let taken = read_file(file);
@@ -49,22 +48,14 @@ pub extern "C" fn zq_open(file: &[u8], state: &mut [u8], size: &mut usize, line:
 }
 
 // Opens a list of rows, each a C and a T, on m cores.
-#[unsafe(no_mangle)]
-pub extern "C" fn zq_open_list(m: u32, rows: &[[u32; 2]], state: &mut [u8], size: &mut usize) -> u32
+pub fn zq_open_list(m: u32, rows: &[[u32; 2]], state: &mut [u8], size: &mut usize) -> u32
     ensures { reply result (filled state.new size.new) ≡ replied (filled state.old size.old) (open_list m (list_rows rows.now) state.old) }
 {
     settle(open_table(take_list(m, rows), state), size)
 }
 
 // Writes a list of rows out as a file, from place `at` on.
-#[unsafe(no_mangle)]
-pub extern "C" fn zq_write_list(
-    m: u32,
-    rows: &[[u32; 2]],
-    out: &mut [u8],
-    at: usize,
-    size: &mut usize,
-) -> u32
+pub fn zq_write_list(m: u32, rows: &[[u32; 2]], out: &mut [u8], at: usize, size: &mut usize) -> u32
     ensures { reply result (filled out.new size.new) ≡ replied (filled out.old size.old) (write_rows m (list_rows rows.now) out.old at) }
 {
     settle(write_list(m, rows, out, at), size)

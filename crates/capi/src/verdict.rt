@@ -45,8 +45,7 @@ fn judge(loaded: StateAnswer, out: &mut [u8], at: usize) -> WriteAnswer
 }
 
 // Writes frames `11` and `12` of a state's table, from place `at` on.
-#[unsafe(no_mangle)]
-pub extern "C" fn zq_verdict(state: &[u8], out: &mut [u8], at: usize, size: &mut usize) -> u32
+pub fn zq_verdict(state: &[u8], out: &mut [u8], at: usize, size: &mut usize) -> u32
     ensures { reply result (filled out.new size.new) ≡ replied (filled out.old size.old) (give_verdict state.now out.old at) }
 {
     settle(judge(load(state), out, at), size)
