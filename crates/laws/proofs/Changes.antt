@@ -12,7 +12,7 @@ use borrow.Author.Tests.{ne_eqb, eqb-true, eqb-false}
 use lib.Dec.{eqb}
 use lib.ListN.{length, get_or, set, length-set}
 use lib.Seq.{take-set-le, get_or-set_same}
-use Rattle.laws.specs.Lists.{count, numbers, each, at, position}
+use Rattle.laws.specs.Lists.{count, numbers, each, position}
 use Rattle.laws.proofs.Tests.{decide}
 use Rattle.laws.proofs.Each.{length-each, at_each, ext_at, count_cong}
 use Rattle.laws.proofs.Filling.{count_next}

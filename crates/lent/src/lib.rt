@@ -1,3 +1,4 @@
 // A table lent as a slice of row structs.
 #![tactic(auto)]
+
 pub mod rows;

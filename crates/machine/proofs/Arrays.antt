@@ -1,6 +1,5 @@
 -- A struct that a function is handed has arrays of 64 entries.
 use mathlib.Core.List.{List}
-use lib.ListN.{length-map}
 use mir.Val.{Val}
 use denote.Laws.{Is}
 use denote.Struct.Declared.{row}

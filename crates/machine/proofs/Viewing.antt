@@ -12,7 +12,7 @@ use Rattle.rules.specs.Tables.{size, row_of}
 use Rattle.tables.specs.Views as Tables
 use Rattle.tables.specs.declared.table.Table.{Table}
 use Rattle.tables.proofs.Views.{length-view, row-view}
-use Rattle.machine.specs.Views.{viewed, view}
+use Rattle.machine.specs.Views.{viewed}
 
 module _ {A : Type 0} (number : A → ℕ) (n : ℕ) (a : List A) (fits : n ≤ length a) where
   -- an array says as many numbers as there are tasks

@@ -1,5 +1,6 @@
 // The slot machine's state: its form, the state that a run starts in, the lead of a task, and the totals.
 #![tactic(auto)]
+
 pub mod form;
 pub mod fresh;
 pub mod lead;

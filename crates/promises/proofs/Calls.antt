@@ -10,7 +10,6 @@ use lib.ListN.{length}
 use Rattle.laws.proofs.Tests.{never, and_T, and_left}
 use Rattle.rules.specs.Refusals.{test, Answer, taken, refused, settle, and_then}
 use Rattle.rules.specs.Tables.{Table, size, outside, accepts}
-use Rattle.rules.specs.Frames as Frames
 use Rattle.rules.specs.States.{State, fresh}
 use Rattle.rules.specs.Forms.{well_formed}
 use Rattle.rules.specs.Runs.{after, slot_lines, totals_numbers, totals_line, lead}

@@ -11,7 +11,7 @@ use Rattle.rules.specs.Refusals.{Answer, taken, settle}
 use Rattle.rules.specs.Tables as Rules
 use Rattle.rules.specs.Tables.{size, accepts, take_list}
 use Rattle.rules.specs.Files.{read_file}
-use Rattle.rules.specs.Verdicts.{verdict_byte, admitted, verdict}
+use Rattle.rules.specs.Verdicts.{verdict_byte, admitted}
 use Rattle.rules.specs.States as States
 use Rattle.rules.specs.States.{fresh}
 use Rattle.rules.specs.Forms.{well_formed}

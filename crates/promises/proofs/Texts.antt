@@ -10,7 +10,7 @@ use Rattle.laws.specs.Lists.{at}
 use Rattle.laws.proofs.Tests.{never}
 use Rattle.rules.specs.Limits.{input_max}
 use Rattle.rules.specs.Refusals.{number_of, Answer, taken, refused, settle}
-use Rattle.rules.specs.Tables.{Table, size, accepts}
+use Rattle.rules.specs.Tables.{Table, accepts}
 use Rattle.rules.specs.Frames as Frames
 use Rattle.rules.specs.Frames.{frame, read_frame}
 use Rattle.rules.specs.Files.{read_file}

@@ -9,7 +9,7 @@ use native.Mathlib.Omega.{arith}
 use lib.Dec.{ltb, lit<}
 use lib.ListN.{length}
 use borrow.Author.Tests.{ltb-true, ltb-false}
-use Rattle.laws.specs.Lists.{join, at}
+use Rattle.laws.specs.Lists.{join}
 use Rattle.laws.proofs.Tests.{decide}
 use Rattle.rules.specs.Limits.{cores_min, cores_max, tasks_min, tasks_max, repeat_max}
 use Rattle.rules.specs.Refusals.{Answer, taken, refused, and_then, first, settle}
@@ -17,7 +17,7 @@ use Rattle.rules.specs.Rows.{Row}
 use Rattle.rules.specs.Repeat.{repeat_length}
 use Rattle.rules.specs.Tables.{Table, size, header_tests, row_tests, whole_tests}
 use Rattle.rules.specs.Frames.{Shape, header, row, frame, Read}
-use Rattle.rules.specs.Files.{header_line, row_line, text, at_line, read_header, read_row, read_rows, read_last, read_lines, read_file}
+use Rattle.rules.specs.Files.{header_line, row_line, at_line, read_header, read_row, read_rows, read_last, read_lines, read_file}
 use Rattle.rules.specs.declared.refusal.Refusal.{Refusal}
 use Rattle.rules.specs.declared.refusal.Refusal.TheVariants.{BadLine, BadCores, BadTasks, BadRow, BadRepeat, Trailing}
 use Rattle.reading_laws.specs.Frames.{Fits, Begins}

@@ -12,7 +12,7 @@ use Rattle.laws.proofs.Each.{length_from, length-each}
 use Rattle.rules.specs.Limits.{tasks_max}
 use Rattle.rules.specs.Tables.{size}
 use Rattle.rules.specs.Forms.{well_formed}
-use Rattle.rules.specs.Refusals.{taken, refused}
+use Rattle.rules.specs.Refusals.{refused}
 use Rattle.rules.specs.declared.refusal.Refusal.TheVariants.{BadState}
 use Rattle.slot_laws.proofs.Forms.{formed-kept}
 use Rattle.tables.specs.Views as Tables

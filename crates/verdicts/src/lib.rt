@@ -1,6 +1,7 @@
 // What the analysis says of a table: which tasks are heavy, whether it is admitted, and the priority order.
 // A table is lent as slices of plain numbers, one entry a task in table order: `c` the executions, `t` the periods.
 #![tactic(auto)]
+
 pub mod limit;
 pub mod lines;
 pub mod order;

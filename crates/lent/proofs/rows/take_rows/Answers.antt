@@ -1,5 +1,5 @@
 -- `lent::rows::take_rows` meets its contract: each turn puts one row into its place, and the table of the pairs is that of the rows.
-use Rattle.std.proofs.Common.{◌≡◌, ◌<◌, ℕ, List, take, ap, ◌∙◌, subst, arith}
+use Rattle.std.proofs.Common.{◌≡◌, ◌<◌, ℕ, take, ap, ◌∙◌, subst, arith}
 use Rattle.rules.specs.Tables.{take_list}
 use Rattle.tables.specs.Views.{table_answer}
 use Rattle.tables.specs.Lists.{list_rows}

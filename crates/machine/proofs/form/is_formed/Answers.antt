@@ -3,7 +3,6 @@ use Prim.Native.Nat.{◌≤◌}
 use mathlib.Core.Path.{◌≡◌, sym, ap, ◌∙◌}
 use mathlib.Core.Bool.{true}
 use mathlib.Core.List.{List}
-use borrow.Author.Tests.{not-true, not-false}
 use Rattle.laws.specs.Lists.{same}
 use Rattle.laws.proofs.Tests.{to_T}
 use Rattle.rules.specs.Limits.{tasks_max}
@@ -49,8 +48,8 @@ returns-then-not-is_same c =
     let few : tasks c.args.s ≤ tasks_max = padded-few c.args.s (to_T padding) in
     let accepting : accepts (Tables.view c.args.s.table) ≡ true = taken-accepts _ full.rows few c.priority-analysis.ensures c.in-Taken.is in
     let ranks-held : c.is_same.result ≡ held c.args.s = let s : State = c.args.s in
-        let order = taken-ranks _ full.rows few c.priority-analysis.ensures (analysis_accepted _ full.rows few (to_T accepting)) in
-        c.is_same.ensures ∙ ap (λ (l : List TaskNumber). same (viewed (λ x. x.0) (tasks s) s.ranks) (viewed (λ x. x.0) (tasks s) l)) order in
+    let order = taken-ranks _ full.rows few c.priority-analysis.ensures (analysis_accepted _ full.rows few (to_T accepting)) in
+    c.is_same.ensures ∙ ap (λ (l : List TaskNumber). same (viewed (λ x. x.0) (tasks s) s.ranks) (viewed (λ x. x.0) (tasks s) l)) order in
     not_ranked c.args.s full few (sym ranks-held ∙ c.if-not-is_same.true)
 
 pub tasks_fit-requires : goal.tasks_fit-requires
@@ -75,8 +74,8 @@ returns c =
     let few : tasks c.args.s ≤ tasks_max = padded-few c.args.s (to_T padding) in
     let accepting : accepts (Tables.view c.args.s.table) ≡ true = taken-accepts _ full.rows few c.priority-analysis.ensures c.in-Taken.is in
     let ranks-held : c.is_same.result ≡ held c.args.s = let s : State = c.args.s in
-        let order = taken-ranks _ full.rows few c.priority-analysis.ensures (analysis_accepted _ full.rows few (to_T accepting)) in
-        c.is_same.ensures ∙ ap (λ (l : List TaskNumber). same (viewed (λ x. x.0) (tasks s) s.ranks) (viewed (λ x. x.0) (tasks s) l)) order in
+    let order = taken-ranks _ full.rows few c.priority-analysis.ensures (analysis_accepted _ full.rows few (to_T accepting)) in
+    c.is_same.ensures ∙ ap (λ (l : List TaskNumber). same (viewed (λ x. x.0) (tasks s) s.ranks) (viewed (λ x. x.0) (tasks s) l)) order in
     c.totals_fit.ensures
     ∙ rest c.args.s full few padding accepting c.if-clock-gt-MAX.false
     (sym ranks-held ∙ c.if-not-is_same.false)

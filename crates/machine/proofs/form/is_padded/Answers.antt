@@ -1,9 +1,7 @@
 -- `machine::form::is_padded` meets its contract.
-use Prim.Native.Nat.{◌-◌}
 use mathlib.Core.Path.{sym, ◌∙◌}
 use Rattle.machine.specs.Views.{blank}
 use Rattle.machine.proofs.Padding.{too_many, start, turn, stop}
-use borrow.Author.Tests.{not-true, not-false}
 use Rattle.machine.proofs.form.is_padded.Goals as goal
 
 pub returns-then-n-gt-MAX : goal.returns-then-n-gt-MAX

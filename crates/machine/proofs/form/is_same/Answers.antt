@@ -1,5 +1,4 @@
 -- `machine::form::is_same` meets its contract: a walk along both arrays.
-use Prim.Native.Nat.{◌-◌}
 use Rattle.machine.proofs.Ranking.{turn, stop, ended}
 use Rattle.machine.proofs.form.is_same.Goals as goal
 

@@ -1,7 +1,5 @@
 -- `machine::form::tasks_fit` meets its contract.
-use Prim.Native.Nat.{◌-◌}
 use mathlib.Core.Path.{sym, ◌∙◌}
-use borrow.Author.Tests.{not-true, not-false}
 use Rattle.machine.proofs.Fitting.{turn, stop}
 use Rattle.machine.proofs.form.tasks_fit.Goals as goal
 

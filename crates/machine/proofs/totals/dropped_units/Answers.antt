@@ -1,5 +1,4 @@
 -- `machine::totals::dropped_units` meets its contract: a sum along the tasks.
-use Prim.Native.Nat.{◌-◌}
 use Rattle.machine.proofs.Totalling.{place, fits, turn, ended}
 use Rattle.machine.proofs.totals.dropped_units.Goals as goal
 

@@ -4,7 +4,6 @@ use mathlib.Core.Path.{◌≡◌, sym, ◌∙◌}
 use mathlib.Core.Bool.{true}
 use native.Mathlib.Omega.{arith}
 use lib.ListN.{length}
-use borrow.Author.Tests.{not-true, not-false}
 use Rattle.machine.specs.Views.{formed}
 use Rattle.machine.proofs.Totalling.{totals_ill, totals_short, totals-written}
 use Rattle.machine.proofs.totals.write_totals.Goals as goal

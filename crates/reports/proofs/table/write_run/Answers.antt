@@ -31,7 +31,7 @@ returns c =
     let fine : T (accepts (view c.args.t)) = accepted c.args.t c.requires.opened in
     let ends : c.length_of-end.result ≡ c.args.count * frame_length (view c.args.t).m = slots_end c.args.t c.requires.opened c.args.count c.length_of-end.ensures in
     let at-end : c.run-ran.result.state ≡ pack (after c.args.count (fresh (view c.args.t))) = end_state (view c.args.t) fine c.args.count c.requires.few c.args.out.now c.requires.room c.fresh-start.ensures
-        c.run-ran.ensures in
+    c.run-ran.ensures in
     run-written (view c.args.t) fine c.args.count c.requires.few c.args.out.now c.requires.room
     c.fresh-start.ensures
     c.run-ran.ensures

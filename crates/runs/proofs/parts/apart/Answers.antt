@@ -1,5 +1,4 @@
 -- `runs::parts::apart` meets its contract: a walk along the tasks that puts each one's numbers into the arrays.
-use Prim.Native.Nat.{◌-◌}
 use Rattle.machine.proofs.Arrays.{state_full}
 use Rattle.runs.proofs.Parting.{period-low, units_small, start, turn, ended}
 use Rattle.runs.proofs.parts.apart.Goals as goal

@@ -4,7 +4,7 @@ use Rattle.runs.proofs.Parting.{Parting}
 use Rattle.runs.proofs.parts.apart.Given as goal
 
 abbrev pub invariant-loop-i : goal.invariant-loop-i
-invariant-loop-i l =     Parting l.s l.c l.t l.ranks l.phase l.left l.last l.done l.dropped l.i
+invariant-loop-i l = Parting l.s l.c l.t l.ranks l.phase l.left l.last l.done l.dropped l.i
 
 abbrev pub decreases-loop-i : goal.decreases-loop-i
-decreases-loop-i l =     l.n - l.i
+decreases-loop-i l = l.n - l.i

@@ -1,5 +1,4 @@
 -- `runs::parts::together` meets its contract: a walk along the tasks that puts each one's numbers into the struct.
-use Prim.Native.Nat.{◌-◌}
 use Rattle.runs.proofs.Parting.{join_turn, join-ended}
 use Rattle.runs.proofs.parts.together.Goals as goal
 

@@ -4,7 +4,7 @@ use Rattle.runs.proofs.Parting.{Joining}
 use Rattle.runs.proofs.parts.together.Given as goal
 
 abbrev pub invariant-loop-i : goal.invariant-loop-i
-invariant-loop-i l =     Joining l.n l.left l.last l.done l.dropped l.lefts l.lasts l.dones l.drops l.i
+invariant-loop-i l = Joining l.n l.left l.last l.done l.dropped l.lefts l.lasts l.dones l.drops l.i
 
 abbrev pub decreases-loop-i : goal.decreases-loop-i
-decreases-loop-i l =     l.n - l.i
+decreases-loop-i l = l.n - l.i

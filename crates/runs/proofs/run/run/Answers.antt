@@ -1,14 +1,9 @@
 -- `runs::run::run` meets its contract: the tests in their order, then the run.
-use Prim.Native.Nat.{◌+◌, ◌*◌}
-use mathlib.Core.Path.{◌≡◌, sym, ◌∙◌}
-use mathlib.Core.Bool.{Bool}
+use mathlib.Core.Path.{sym, ◌∙◌}
 use mathlib.Core.List.{[]}
-use lib.Dec.{T, ltb}
-use lib.ListN.{length}
+use lib.Dec.{T}
 use Rattle.laws.proofs.Tests.{to_T}
-use Rattle.rules.specs.Limits.{clock_max}
 use Rattle.machine.specs.Views.{formed}
-use Rattle.runs.specs.Slots.{frame_length}
 use Rattle.runs.proofs.Answering.{refuse_state, in_bounds, few-cores, short_is, refuse_clock, refuse_room, take-run}
 use Rattle.runs.proofs.run.run.Goals as goal
 

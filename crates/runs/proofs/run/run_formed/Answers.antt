@@ -1,9 +1,7 @@
 -- `runs::run::run_formed` meets its contract: the state is taken apart, its slots are run on the fronts of the arrays, and it is put together.
-use Rattle.machine.specs.Full.{Full}
-use Rattle.machine.specs.Views.{tasks, view}
 use Rattle.machine.proofs.Arrays.{state_full}
 use Rattle.runs.proofs.Parting.{few-tasks}
-use Rattle.runs.proofs.Running.{Columns, columns, runnable, run-formed}
+use Rattle.runs.proofs.Running.{columns, runnable, run-formed}
 use Rattle.runs.proofs.run.run_formed.Goals as goal
 
 pub slice_bounds-c-end : goal.slice_bounds-c-end

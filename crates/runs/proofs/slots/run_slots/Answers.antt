@@ -1,5 +1,4 @@
 -- `runs::slots::run_slots` meets its contract: a loop over the slots, whose turn is one slot and its frame.
-use Prim.Native.Nat.{◌-◌}
 use mathlib.Core.Path.{sym, ap}
 use lib.ListN.{length}
 use lib.Seq.{length-take-le}

@@ -1,5 +1,5 @@
 -- `stored::bytes::read_bytes` meets its contract: so far v is what the bytes that were read stand for.
-use Prim.Native.Nat.{ℕ, ◌+◌, ◌-◌, ◌*◌, ◌^◌, ◌<◌}
+use Prim.Native.Nat.{ℕ, ◌+◌, ◌*◌, ◌^◌, ◌<◌}
 use native.Mathlib.Omega.{arith}
 use lib.ListN.{get_or}
 use Rattle.stored.proofs.Loops.{reading_starts, reading_goes_on, reading_fits}

@@ -1,5 +1,4 @@
 -- `stored::load::ranks` meets its contract: so far the array has what was read, and zeros after it.
-use Prim.Native.Nat.{◌-◌}
 use mathlib.Core.Path.{ap, ◌∙◌}
 use Rattle.laws.proofs.Fronts.{fronting_goes_on, fronting_ends}
 use Rattle.rules.specs.Limits.{tasks_max}

@@ -1,5 +1,4 @@
 -- `stored::store::write_tasks` meets its contract: so far the records of the first tasks stand at the front.
-use Prim.Native.Nat.{◌-◌}
 use mathlib.Core.Path.{refl}
 use Rattle.machine.proofs.Arrays.{state_full}
 use Rattle.reading_laws.proofs.Laying.{no_piece, all_pieces}

@@ -1,5 +1,4 @@
 -- `verdicts::limit::scaled_sum` meets its contract: a walk over the tasks that adds their shares.
-use Prim.Native.Nat.{◌-◌}
 use native.Mathlib.Omega.{arith}
 use Rattle.verdicts.proofs.Summing.{few, positive, turn, ended}
 use Rattle.verdicts.proofs.limit.scaled_sum.Goals as goal

@@ -1,5 +1,4 @@
 -- `verdicts::rows::split` meets its contract: a walk along the rows that copies both numbers.
-use Prim.Native.Nat.{◌-◌}
 use mathlib.Core.Path.{◌≡◌}
 use lib.ListN.{length}
 use Rattle.tables.proofs.Views.{table_full}

@@ -1,5 +1,4 @@
 -- `verdicts::share::count_heavy` meets its contract: a walk over the tasks that counts the heavy ones.
-use Prim.Native.Nat.{◌-◌}
 use mathlib.Core.Path.{◌∙◌, ap}
 use native.Mathlib.Omega.{arith}
 use Rattle.verdicts.specs.Fractions.{view_fraction}

@@ -1,5 +1,4 @@
 -- `verdicts::table::numbered` meets its contract: a walk along the numbers.
-use Prim.Native.Nat.{◌-◌}
 use mathlib.Core.Path.{◌≡◌, refl}
 use native.Mathlib.Omega.{arith}
 use lib.ListN.{length, replicate}

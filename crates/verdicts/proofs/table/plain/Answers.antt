@@ -1,5 +1,5 @@
 -- `verdicts::table::plain` meets its contract: a walk along the task numbers.
-use Prim.Native.Nat.{ℕ, ◌-◌}
+use Prim.Native.Nat.{ℕ}
 use mathlib.Core.Path.{◌≡◌, refl}
 use native.Mathlib.Omega.{arith}
 use lib.ListN.{length, replicate}

@@ -1,5 +1,5 @@
 -- `verdicts::table::test_rows` meets its contract: a walk along the rows that ends at the first that is refused.
-use Prim.Native.Nat.{◌-◌, ◌<◌}
+use Prim.Native.Nat.{◌<◌}
 use mathlib.Core.Path.{◌≡◌, sym, ap, ◌∙◌}
 use lib.ListN.{length, get_or}
 use Rattle.rules.specs.Refusals.{first}
