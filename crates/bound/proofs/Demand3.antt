@@ -15,6 +15,6 @@ demand_3 tbl t a b =
     record {
       no_miss = rw (own_run tbl b) w.no_miss;
       no_drop = rw (own_run tbl b) w.no_drop;
-      none-shown = λ s h. rw (own_slot tbl s) (w.none-shown s h);
+      none_shown = λ s h. rw (own_slot tbl s) (w.none_shown s h);
       lights_ahead = λ k. omega (arith, w.lights_ahead k);
     }

@@ -25,7 +25,7 @@ endless tbl a within ranks run r right b =
     record {
       no_miss = run-misses-none tbl a within ranks run r right b;
       no_drop = run-dropped-none tbl a within ranks run r right b;
-      none-shown = λ s h. slot-misses-none tbl a within ranks run r right s;
+      none_shown = λ s h. slot-misses-none tbl a within ranks run r right s;
       lights_ahead = lights_keep_up tbl ranks r run right a within b;
     }
 
@@ -40,6 +40,6 @@ on_time tbl t a ranks run b o u h =
     record {
       no_miss = rw (state u (le_refl u)) at w.no_miss;
       no_drop = rw (state u (le_refl u)) at w.no_drop;
-      none-shown = λ s l. rw (same s l, state s (le_of_suc-le l)) at (w.none-shown s l);
+      none_shown = λ s l. rw (same s l, state s (le_of_suc-le l)) at (w.none_shown s l);
       lights_ahead = λ k. rw (work-all-same long run u same (take k (lights_of tbl ranks)) u (le_refl u)) at (w.lights_ahead k);
     }

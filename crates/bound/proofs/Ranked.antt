@@ -114,4 +114,4 @@ module _ (tbl : Table) (a : Accepted tbl) (ranks : List ℕ) (r : Priority tbl r
   pub table_conditions : WithinLimit tbl → Conditions (ranked tbl a ranks r) (tbl.m - suc (heavy_count tbl)) 1
   unfolding ranked fraction
   table_conditions within =
-      general_conditions {x = ranked tbl a ranks r} (fraction tbl.m).den a.cores-low (omega (arith, a.cores-low)) (shares_admitted within) (light-rising r)
+      general_conditions {x = ranked tbl a ranks r} (fraction tbl.m).den a.cores_low (omega (arith, a.cores_low)) (shares_admitted within) (light-rising r)

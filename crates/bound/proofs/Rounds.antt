@@ -82,15 +82,15 @@ module _ (tbl : Table) (t : T (accepts tbl)) where
   left_again zero = λ i low high. left-none i low high (0 + H) (mod_again i low high 0 ∙ zero-mod (row_of tbl i).t) ∙ sym (left-none i low high 0 (zero-mod (row_of tbl i).t))
   left_again (suc s) = left-next s (left_again s)
 
-  left-length : (b : ℕ) → length (state tbl b).left ≡ size tbl
-  left-length b = (run-kept tbl t b).left-length ∙ ap size (table_at tbl b)
+  left_length : (b : ℕ) → length (state tbl b).left ≡ size tbl
+  left_length b = (run-kept tbl t b).left_length ∙ ap size (table_at tbl b)
 
   module _ (s : ℕ) where
     -- H slots later there is the same left work
     pub same_left : (state tbl (s + H)).left ≡ (state tbl s).left
     same_left =
-        ext_at (state tbl (s + H)).left (state tbl s).left (left-length (s + H) ∙ sym (left-length s))
-        (λ i low high. left_again s i low (omega (arith, left-length (s + H))))
+        ext_at (state tbl (s + H)).left (state tbl s).left (left_length (s + H) ∙ sym (left_length s))
+        (λ i low high. left_again s i low (omega (arith, left_length (s + H))))
 
     -- the same tasks are chosen
     pub same_choice : choose tbl.m (order tbl) (ready tbl (s + H)) ≡ choose tbl.m (order tbl) (ready tbl s)

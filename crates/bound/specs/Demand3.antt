@@ -15,7 +15,7 @@ pub record Demand3 (tbl : Table) (b : ℕ) : Type 0 where
   pub no_miss : (after b (fresh tbl)).misses ≡ 0
   pub no_drop : (after b (fresh tbl)).dropped ≡ replicate (size tbl) 0
   -- no slot before b shows a miss
-  pub none-shown : (s : ℕ) → s < b → (slot (after s (fresh tbl))).shown.misses ≡ 0
+  pub none_shown : (s : ℕ) → s < b → (slot (after s (fresh tbl))).shown.misses ≡ 0
   -- the first k light tasks in priority order, for every k, were given at least their shares of b slots: the work is
   -- counted from the cores that held them in the slots run, and both sides are scaled by H
   pub lights_ahead : (k : ℕ)

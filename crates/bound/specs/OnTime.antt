@@ -14,7 +14,7 @@ pub record OnTime (tbl : Table) (ranks : List ℕ) (run : ℕ → List ℕ) (b :
   pub no_miss : (after_with run b (fresh_with tbl ranks)).misses ≡ 0
   pub no_drop : (after_with run b (fresh_with tbl ranks)).dropped ≡ replicate (size tbl) 0
   -- no slot before b shows a miss
-  pub none-shown : (s : ℕ) → s < b → (slot_with (after_with run s (fresh_with tbl ranks)) (run s)).shown.misses ≡ 0
+  pub none_shown : (s : ℕ) → s < b → (slot_with (after_with run s (fresh_with tbl ranks)) (run s)).shown.misses ≡ 0
   -- the first k light tasks of the run's own order, for every k, were given at least their shares of b slots: the work is
   -- counted from the cores that held them in the slots run, and both sides are scaled by H
   pub lights_ahead : (k : ℕ)

@@ -87,8 +87,8 @@ run_of count out place b =
 -- what a run leaves that was taken
 record Took (bs : List ℕ) (count : ℕ) (out : List ℕ) (place : ℕ) (b : Answer State) (s after-it : StateDeclared.State) (out' : List ℕ) : Type 0 where
   pub st : State
-  pub same-m : s.table.m.0 ≡ st.table.m
-  pub few-cores : st.table.m ≤ cores_max
+  pub same_m : s.table.m.0 ≡ st.table.m
+  pub few_cores : st.table.m ≤ cores_max
   pub next : after-it ≡ pack (after count st)
   pub good : T (well_formed (after count st))
   pub as_long : length (store (after count st)) ≡ length bs
@@ -106,8 +106,8 @@ module _ (bs : List ℕ) (count : ℕ) (out : List ℕ) (place : ℕ) {a : RunAn
       let same : found.0 ≡ ran_so count out place st = ran.2 in
       record {
         st = st;
-        same-m = packed-m st;
-        few-cores = (formed-kept st w).taken.cores-high;
+        same_m = packed-m st;
+        few_cores = (formed-kept st w).taken.cores_high;
         next = found.2 ∙ ap (λ (x : Ran). pack x.state) same;
         good = ends;
         as_long = length-store (after count st) ∙ ap (λ (t : Table). length_of (size t)) (after_table count st) ∙ sym len;
@@ -138,7 +138,7 @@ module _ (bs : List ℕ) (count : ℕ) (out : List ℕ) (place : ℕ) {x : State
       taking = rw read (took bs count out place (loads bs) by_bytes told)
 
       pub cores-few : x.state.table.m.0 ≤ cores_max
-      cores-few = omega (arith, taking.same-m, taking.few-cores)
+      cores-few = omega (arith, taking.same_m, taking.few_cores)
 
       pub run-taken : (before : ℕ) {w : WriteAnswer} {state' : List ℕ} {size : ℕ} → made w state' ≡ stored_state a.state bs 0 → size ≡ count * frame_length x.state.table.m.0
           → reply 0 (run state' out' size) ≡ replied (run bs out before) (run_stored bs count out place)
@@ -149,6 +149,6 @@ module _ (bs : List ℕ) (count : ℕ) (out : List ℕ) (place : ℕ) {x : State
           ap (λ (y : Wrote). y.out) (stored ∙ ap (λ (s : StateDeclared.State). stored_state s bs 0) t.next ∙ stored_over (after count t.st) t.good bs t.as_long)
           in
           let sized : size ≡ length (slot_lines count t.st) =
-          long ∙ ap (λ (m : ℕ). count * frame_length m) t.same-m ∙ sym (length-slot_lines count t.st)
+          long ∙ ap (λ (m : ℕ). count * frame_length m) t.same_m ∙ sym (length-slot_lines count t.st)
           in
           (λ j. reply 0 (run (bytes j) (t.lines j) (sized j))) ∙ sym (ap (replied (run bs out before)) t.answer)

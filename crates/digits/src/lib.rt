@@ -2,7 +2,7 @@
 #![tactic(auto)]
 
 ghost use Rattle.std.specs.Prelude.{◌≡◌, cond, ◌++◌, ◌+◌, ◌%◌, ◌≤◌, ◌<◌, ltb, length, take, drop};
-ghost use Rattle.laws.specs.Digits.{digit as digitOf, digit_value, value, field};
+ghost use Rattle.laws.specs.Digits.{digit as digit_of, digit_value, value, field};
 ghost use Rattle.rules.specs.Answers.{lay};
 ghost use Rattle.digits.specs.Answers.{digit_answer, field_answer, Within};
 
@@ -30,7 +30,7 @@ fn above(v: u8) -> u8
 // The digit for a number below 16.
 pub fn digit(v: u8) -> u8
     requires { v < 16 }
-    ensures { result ≡ digitOf v }
+    ensures { result ≡ digit_of v }
 {
     v + above(v)
 }
@@ -78,7 +78,7 @@ pub fn read_field(s: &[u8], from: usize, width: usize) -> FieldAnswer
 }
 
 fn low(v: u64) -> u8
-    ensures { result ≡ digitOf (v % 16) }
+    ensures { result ≡ digit_of (v % 16) }
 {
     digit((v % 16) as u8)
 }

@@ -42,9 +42,9 @@ module _ (c t phase left dropped : List ℕ) where
     pub drops : dropped' ≡ filled dropped_of dropped i
     pub number : misses ≡ count miss_of (numbers i)
     pub small : misses ≤ i
-    pub phase-size : length phase' ≡ length left
-    pub left-size : length left' ≡ length left
-    pub dropped-size : length dropped' ≡ length left
+    pub phase_size : length phase' ≡ length left
+    pub left_size : length left' ≡ length left
+    pub dropped_size : length dropped' ≡ length left
 
   module _ (e : Ending c t phase left dropped) where
     -- before the first task
@@ -57,22 +57,22 @@ module _ (c t phase left dropped : List ℕ) where
           drops = refl;
           number = refl;
           small = zero-le;
-          phase-size = e.phase-size;
-          left-size = refl;
-          dropped-size = e.dropped-size;
+          phase_size = e.phase_size;
+          left_size = refl;
+          dropped_size = e.dropped_size;
         }
 
     module _ {phase' left' dropped' : List ℕ} {misses i : ℕ} (g : Going phase' left' dropped' misses i) where
       module _ (more : i < length left) where
         -- what the loop reads of the next task is as it was
         phase-here : get_or phase' i 0 ≡ get_or phase i 0
-        phase-here = ap (λ (l : List ℕ). get_or l i 0) g.phases ∙ filled-here phase_of phase i (omega (arith, e.phase-size))
+        phase-here = ap (λ (l : List ℕ). get_or l i 0) g.phases ∙ filled-here phase_of phase i (omega (arith, e.phase_size))
 
         left_here : get_or left' i 0 ≡ get_or left i 0
         left_here = ap (λ (l : List ℕ). get_or l i 0) g.lefts ∙ filled-here left_of left i more
 
         dropped-here : get_or dropped' i 0 ≡ get_or dropped i 0
-        dropped-here = ap (λ (l : List ℕ). get_or l i 0) g.drops ∙ filled-here dropped_of dropped i (omega (arith, e.dropped-size))
+        dropped-here = ap (λ (l : List ℕ). get_or l i 0) g.drops ∙ filled-here dropped_of dropped i (omega (arith, e.dropped_size))
 
         -- the next task's phase lies below its period, and its units and its miss fit
         pub phase-low : get_or phase' i 0 < get_or t i 0
@@ -89,8 +89,8 @@ module _ (c t phase left dropped : List ℕ) where
             → d ≡ cond (eqb p 0) (get_or left' i 0) 0 → v ≡ cond (ltb 0 d) 1 0
             → Going (set phase' i p) (set left' i u) (set dropped' i (get_or dropped' i 0 + d)) (misses + v) (i + 1)
         turn {p} {u} {d} {v} ep eu ed ev =
-            let p_more : i < length phase = omega (arith, e.phase-size) in
-            let d_more : i < length dropped = omega (arith, e.dropped-size) in
+            let p_more : i < length phase = omega (arith, e.phase_size) in
+            let d_more : i < length dropped = omega (arith, e.dropped_size) in
             let next : p ≡ phase_of (i + 1) = ep ∙ rw (phase-here, at_next phase i, at_next t i) in
             let units : get_or left' i 0 ≡ at left (i + 1) = left_here ∙ sym (at_next left i) in
             let miss : v ≡ cond (miss_of (i + 1)) 1 0 = ev ∙ rw (ed, lost_some (eqb p 0) (get_or left' i 0), next, units) in
@@ -101,9 +101,9 @@ module _ (c t phase left dropped : List ℕ) where
               drops = filled_turn dropped_of dropped i d_more g.drops (rw (ed, next, units, dropped-here, at_next dropped i));
               number = rw (g.number, miss) (sym (count_next miss_of i));
               small = omega (arith, miss, cond-le (miss_of (i + 1)) 1);
-              phase-size = length-set phase' i p ∙ g.phase-size;
-              left-size = length-set left' i u ∙ g.left-size;
-              dropped-size = length-set dropped' i (get_or dropped' i 0 + d) ∙ g.dropped-size;
+              phase_size = length-set phase' i p ∙ g.phase_size;
+              left_size = length-set left' i u ∙ g.left_size;
+              dropped_size = length-set dropped' i (get_or dropped' i 0 + d) ∙ g.dropped_size;
             }
 
       -- after the last task
@@ -111,8 +111,8 @@ module _ (c t phase left dropped : List ℕ) where
       ended h =
           let at_end : i ≡ length left = omega (arith, g.within) in
           record {
-            phases = g.phases ∙ filled_end phase_of phase i (at_end ∙ sym e.phase-size) ∙ rw e.phase-size;
+            phases = g.phases ∙ filled_end phase_of phase i (at_end ∙ sym e.phase_size) ∙ rw e.phase_size;
             lefts = g.lefts ∙ filled_end left_of left i at_end;
-            drops = g.drops ∙ filled_end dropped_of dropped i (at_end ∙ sym e.dropped-size) ∙ rw e.dropped-size;
+            drops = g.drops ∙ filled_end dropped_of dropped i (at_end ∙ sym e.dropped_size) ∙ rw e.dropped_size;
             number = g.number ∙ rw at_end;
           }

@@ -61,7 +61,7 @@ module _ {m : ℕ} {c t ranks phase left last done dropped : List ℕ} (r : Read
 
   named-chosen : Named (length last) chosen
   named-chosen =
-      rw r.last-size
+      rw r.last_size
       (record {
         from = λ j h. (chosen_within (get_or chosen j 0) (stands_get_or chosen j h)).0;
         to = λ j h. (chosen_within (get_or chosen j 0) (stands_get_or chosen j h)).1;
@@ -81,10 +81,10 @@ module _ {m : ℕ} {c t ranks phase left last done dropped : List ℕ} (r : Read
   working : Working chosen left done
   working =
       record {
-        done-size = r.done-size;
-        named = rw r.last-size at named-chosen;
+        done_size = r.done_size;
+        named = rw r.last_size at named-chosen;
         pending = λ i low high. choose-pending m left ranking i;
-        fits = λ i low high. omega (arith, choice.once i, r.done-fits i low high);
+        fits = λ i low high. omega (arith, choice.once i, r.done_fits i low high);
       }
 
   -- each chosen task is on one core, and no other task is on any
@@ -104,13 +104,13 @@ module _ {m : ℕ} {c t ranks phase left last done dropped : List ℕ} (r : Read
   ending : Ending c t phase (worked_on left cores) dropped
   ending =
       record {
-        few = omega (arith, r.few-tasks, worked-size);
-        c-size = r.c-size ∙ sym worked-size;
-        t-size = r.t-size ∙ sym worked-size;
-        phase-size = r.phase-size ∙ sym worked-size;
-        dropped-size = r.dropped-size ∙ sym worked-size;
+        few = omega (arith, r.few_tasks, worked-size);
+        c_size = r.c_size ∙ sym worked-size;
+        t_size = r.t_size ∙ sym worked-size;
+        phase_size = r.phase_size ∙ sym worked-size;
+        dropped_size = r.dropped_size ∙ sym worked-size;
         phases = λ j h. r.phases (suc j) (omega arith) (omega (arith, worked-size));
-        fits = λ j h. omega (arith, r.dropped-fits (suc j) (omega arith) (omega (arith, worked-size)), worked-small (suc j) (omega arith) (omega (arith, worked-size)));
+        fits = λ j h. omega (arith, r.dropped_fits (suc j) (omega arith) (omega (arith, worked-size)), worked-small (suc j) (omega arith) (omega (arith, worked-size)));
       }
 
   -- The parts of the code, one after the other.
@@ -139,8 +139,8 @@ module _ {m : ℕ} {c t ranks phase left last done dropped : List ℕ} (r : Read
           once = choice.once;
           real = choice.real;
           named = named-chosen;
-          lasts = λ j h. omega (arith, r.lasts (suc j) (omega arith) (omega (arith, r.last-size)));
-          small = omega (arith, r.few-cores);
+          lasts = λ j h. omega (arith, r.lasts (suc j) (omega arith) (omega (arith, r.last_size)));
+          small = omega (arith, r.few_cores);
         })
 
     -- what the work asks
@@ -155,10 +155,10 @@ module _ {m : ℕ} {c t ranks phase left last done dropped : List ℕ} (r : Read
       cores_is = put.placing ∙ rw (width, picked_is)
 
       lasts_are : last₁ ≡ each (length left) (λ i. cond (placed cores i) (position i cores) (at last i))
-      lasts_are = put.seated.lasts ∙ rw (cores_is, r.last-size)
+      lasts_are = put.seated.lasts ∙ rw (cores_is, r.last_size)
 
       moves-are : moves ≡ count (moved last cores) (numbers (length left))
-      moves-are = put.seated.number ∙ rw (cores_is, r.last-size)
+      moves-are = put.seated.number ∙ rw (cores_is, r.last_size)
 
       worked_on_lem : Worked chosen left done left₂ done₁
       worked_on_lem = rw picked_is at worked

@@ -101,14 +101,14 @@ module _ {st : State} (kept : Kept st) where
       → Ready table.m (units_of table) (periods_of table) st.ranks (phases_in table st.clock) (release table st.clock st.left) st.last st.done st.dropped
   ready clock =
       record {
-        few-cores = kept.taken.cores-high;
-        few-tasks = omega (arith, kept.taken.tasks-high, release-size table st.clock st.left);
-        c-size = length-map table.rows (λ r. r.c) ∙ sym (release-size table st.clock st.left);
-        t-size = length-map table.rows (λ r. r.t) ∙ sym (release-size table st.clock st.left);
-        phase-size = phases-size table st.clock ∙ sym (release-size table st.clock st.left);
-        last-size = kept.last-length ∙ sym (release-size table st.clock st.left);
-        done-size = kept.done-length ∙ sym (release-size table st.clock st.left);
-        dropped-size = kept.dropped-length ∙ sym (release-size table st.clock st.left);
+        few_cores = kept.taken.cores_high;
+        few_tasks = omega (arith, kept.taken.tasks_high, release-size table st.clock st.left);
+        c_size = length-map table.rows (λ r. r.c) ∙ sym (release-size table st.clock st.left);
+        t_size = length-map table.rows (λ r. r.t) ∙ sym (release-size table st.clock st.left);
+        phase_size = phases-size table st.clock ∙ sym (release-size table st.clock st.left);
+        last_size = kept.last_length ∙ sym (release-size table st.clock st.left);
+        done_size = kept.done_length ∙ sym (release-size table st.clock st.left);
+        dropped_size = kept.dropped_length ∙ sym (release-size table st.clock st.left);
         named = rw (kept.ranked, release-size table st.clock st.left) (order-named table);
         once = λ i. rw kept.ranked (omega (arith, order-count table (eqb i), count-numbers-le i (size table)));
         phases =
@@ -120,8 +120,8 @@ module _ {st : State} (kept : Kept st) where
             rw (at-release table st.clock st.left i low (within high), at-units table i)
             (cond_below (releases (row_of table i) st.clock) (kept.task i low (within high)).fits);
         lasts = λ i low high. (kept.task i low (within high)).core;
-        done-fits = λ i low high. omega (arith, (kept.task i low (within high)).books, released-fits clock i low (within high));
-        dropped-fits =
+        done_fits = λ i low high. omega (arith, (kept.task i low (within high)).books, released-fits clock i low (within high));
+        dropped_fits =
             λ i low high.
             omega (arith, (kept.task i low (within high)).books, released-fits clock i low (within high), at-units table i, kept.taken.row i low (within high));
       }
@@ -150,7 +150,7 @@ module _ {st : State} (kept : Kept st) where
   -- the left work after the releases
   pub released_on_lem : released_on (units_of table) (phases_in table st.clock) st.left ≡ release table st.clock st.left
   unfolding released_on release demand
-  released_on_lem = rw kept.left-length (each_cong (size table) _ _ (λ i low high. rw (releases_now i low high, at-units table i)))
+  released_on_lem = rw kept.left_length (each_cong (size table) _ _ (λ i low high. rw (releases_now i low high, at-units table i)))
 
   -- a release of no units takes the releases back: the jobs before them have ended
   module _ (none : List ℕ) (zero-all : (i : ℕ) → at none i ≡ 0) where
@@ -165,7 +165,7 @@ module _ {st : State} (kept : Kept st) where
     pub withheld_on : released_on none (phases_in table st.clock) (release table st.clock st.left) ≡ st.left
     unfolding released_on
     withheld_on =
-        rw (release-size table st.clock st.left) (each_cong (size table) _ _ withheld_one) ∙ each_at (size table) st.left kept.left-length
+        rw (release-size table st.clock st.left) (each_cong (size table) _ _ withheld_one) ∙ each_at (size table) st.left kept.left_length
 
   -- the deadlines, for any work left before them
   abbrev ends_on : ℕ → Bool

@@ -38,16 +38,16 @@ module _ (chosen left done : List ℕ) (w : Working chosen left done) where
         so_far =
             record {
               lefts = sym (each_at n left refl) ∙ each_cong n (at left) (left_of []) (λ i l u. sym (sub-zero (at left i)));
-              dones = sym (each_at n done w.done-size) ∙ each_cong n (at done) (done_of []) (λ i l u. sym (add-zero (at done i)));
+              dones = sym (each_at n done w.done_size) ∙ each_cong n (at done) (done_of []) (λ i l u. sym (add-zero (at done i)));
             };
       }
 
   module _ {left' done' : List ℕ} {j : ℕ} (g : Going chosen left done left' done' j) where
-    pub left-size : length left' ≡ length left
-    left-size = ap length g.so_far.lefts ∙ length-each n _
+    pub left_size : length left' ≡ length left
+    left_size = ap length g.so_far.lefts ∙ length-each n _
 
-    pub done-size : length done' ≡ length left
-    done-size = ap length g.so_far.dones ∙ length-each n _
+    pub done_size : length done' ≡ length left
+    done_size = ap length g.so_far.dones ∙ length-each n _
 
     module _ (more : j < length chosen) where
       -- the next task
@@ -80,8 +80,8 @@ module _ (chosen left done : List ℕ) (w : Working chosen left done) where
       waiting =
           record {
             low = low;
-            high = omega (arith, high, left-size);
-            done-size = done-size ∙ sym left-size;
+            high = omega (arith, high, left_size);
+            done_size = done_size ∙ sym left_size;
             one_left = omega (arith, left_here, one_more, count-take (eqb task) (j + 1) chosen, w.pending task low high);
             fits = omega (arith, done-here, one_more, count-take (eqb task) (j + 1) chosen, w.fits task low high);
           }

@@ -12,10 +12,10 @@ ending phase t i = eqb (next_phase (at phase i) (at t i)) 0
 
 pub record Ending (c t phase left dropped : List ℕ) : Type 0 where
   pub few : length left ≤ 64
-  pub c-size : length c ≡ length left
-  pub t-size : length t ≡ length left
-  pub phase-size : length phase ≡ length left
-  pub dropped-size : length dropped ≡ length left
+  pub c_size : length c ≡ length left
+  pub t_size : length t ≡ length left
+  pub phase_size : length phase ≡ length left
+  pub dropped_size : length dropped ≡ length left
   pub phases : (j : ℕ) → j < length left → get_or phase j 0 < get_or t j 0
   pub fits : (j : ℕ) → j < length left → get_or dropped j 0 + get_or left j 0 < 2 ^ 32
 

@@ -57,21 +57,21 @@ step_on m c t ranks phase released last done dropped = effect_on c t phase relea
 
 -- what a slot asks of the lists
 pub record Ready (m : ℕ) (c t ranks phase left last done dropped : List ℕ) : Type 0 where
-  pub few-cores : m ≤ 32
-  pub few-tasks : length left ≤ 64
-  pub c-size : length c ≡ length left
-  pub t-size : length t ≡ length left
-  pub phase-size : length phase ≡ length left
-  pub last-size : length last ≡ length left
-  pub done-size : length done ≡ length left
-  pub dropped-size : length dropped ≡ length left
+  pub few_cores : m ≤ 32
+  pub few_tasks : length left ≤ 64
+  pub c_size : length c ≡ length left
+  pub t_size : length t ≡ length left
+  pub phase_size : length phase ≡ length left
+  pub last_size : length last ≡ length left
+  pub done_size : length done ≡ length left
+  pub dropped_size : length dropped ≡ length left
   pub named : Named (length left) ranks
   pub once : (i : ℕ) → count (eqb i) ranks ≤ 1
   pub phases : (i : ℕ) → 1 ≤ i → i ≤ length left → at phase i < at t i
   pub lefts : (i : ℕ) → 1 ≤ i → i ≤ length left → at left i ≤ at c i
   pub lasts : (i : ℕ) → 1 ≤ i → i ≤ length left → at last i ≤ m
-  pub done-fits : (i : ℕ) → 1 ≤ i → i ≤ length left → at done i + 1 < 2 ^ 32
-  pub dropped-fits : (i : ℕ) → 1 ≤ i → i ≤ length left → at dropped i + at c i < 2 ^ 32
+  pub done_fits : (i : ℕ) → 1 ≤ i → i ≤ length left → at done i + 1 < 2 ^ 32
+  pub dropped_fits : (i : ℕ) → 1 ≤ i → i ≤ length left → at dropped i + at c i < 2 ^ 32
 
 -- A state of the rules as such lists.
 

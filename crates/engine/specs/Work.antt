@@ -7,7 +7,7 @@ use Rattle.engine.specs.Choice.{Named}
 pub record Waiting (i : ℕ) (left done : List ℕ) : Type 0 where
   pub low : 1 ≤ i
   pub high : i ≤ length left
-  pub done-size : length done ≡ length left
+  pub done_size : length done ≡ length left
   pub one_left : 1 ≤ get_or left (i - 1) 0
   pub fits : get_or done (i - 1) 0 + 1 < 2 ^ 32
 
@@ -17,7 +17,7 @@ pub record Served (i : ℕ) (left done left' done' : List ℕ) : Type 0 where
 
 -- All chosen tasks.
 pub record Working (chosen left done : List ℕ) : Type 0 where
-  pub done-size : length done ≡ length left
+  pub done_size : length done ≡ length left
   pub named : Named (length left) chosen
   pub pending : (i : ℕ) → 1 ≤ i → i ≤ length left → count (eqb i) chosen ≤ at left i
   pub fits : (i : ℕ) → 1 ≤ i → i ≤ length left → at done i + count (eqb i) chosen < 2 ^ 32

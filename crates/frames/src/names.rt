@@ -3,10 +3,10 @@
 ghost use Rattle.std.specs.Prelude.{◌≡◌, ◌+◌, ◌≤◌, length};
 ghost use Rattle.laws.specs.Digits.{field};
 ghost use Rattle.rules.specs.Answers.{lay};
-ghost use Rattle.frames.specs.Pairs.{names as everyByte};
+ghost use Rattle.frames.specs.Pairs.{names as every_byte};
 
 pub fn names() -> [u8; 512]
-    ensures { result ≡ everyByte }
+    ensures { result ≡ every_byte }
 {
     let mut out = [0u8; 512];
     let mut i = 0;
@@ -21,7 +21,7 @@ pub fn names() -> [u8; 512]
 
 // The two bytes from a place on become the last two digits of v; no other byte differs.
 pub fn write_name(out: &mut [u8], at: usize, names: &[u8], v: u32)
-    requires { (at + 2 ≤ length out.old) × (names.now ≡ everyByte) }
+    requires { (at + 2 ≤ length out.old) × (names.now ≡ every_byte) }
     ensures { out.new ≡ lay out.old at (field 2 v) }
 {
     let from = 2 * ((v % 256) as usize);

@@ -2,14 +2,14 @@
 ghost use Rattle.std.specs.Prelude.{◌≡◌, ◌++◌, ◌+◌, ◌*◌, ◌≤◌, length, drop};
 ghost use Rattle.laws.specs.Digits.{field};
 ghost use Rattle.rules.specs.Runs.{slot_line};
-ghost use Rattle.frames.specs.Pairs.{names as everyByte};
+ghost use Rattle.frames.specs.Pairs.{names as every_byte};
 ghost use Rattle.frames.specs.Slots.{shown_as};
 
 use crate::names::write_name;
 
 // The type and the slot's number at the front of the lent part; nothing after them differs. `names` has the digits of every byte.
 fn write_number(out: &mut [u8], slot: u32, names: &[u8])
-    requires { (10 ≤ length out.old) × (names.now ≡ everyByte) }
+    requires { (10 ≤ length out.old) × (names.now ≡ every_byte) }
     ensures { out.new ≡ field 2 0x13 ++ field 8 slot ++ drop 10 out.old }
 {
     let third = slot / 256;
@@ -24,7 +24,7 @@ fn write_number(out: &mut [u8], slot: u32, names: &[u8])
 
 // The whole frame at the front of the lent part; nothing after it differs.
 pub fn write_slot(out: &mut [u8], slot: u32, cores: &[u8], moves: u32, misses: u32, names: &[u8])
-    requires { (length cores.now ≤ 32) × (2 * length cores.now + 15 ≤ length out.old) × (names.now ≡ everyByte) }
+    requires { (length cores.now ≤ 32) × (2 * length cores.now + 15 ≤ length out.old) × (names.now ≡ every_byte) }
     ensures { out.new ≡ slot_line (shown_as slot cores.now moves misses) ++ drop (2 * length cores.now + 15) out.old }
 {
     let end = 2 * cores.len() + 10;

@@ -56,14 +56,14 @@ pub kept-sized : {st : States.State} → Kept st → Sized st
 kept-sized {st} k =
     record {
       ranks = ap length k.ranked ∙ order-length st.table;
-      left = k.left-length;
-      last = k.last-length;
-      done = k.done-length;
-      dropped = k.dropped-length;
+      left = k.left_length;
+      last = k.last_length;
+      done = k.done_length;
+      dropped = k.dropped_length;
     }
 
 -- so that the struct of a well_formed_lem state passes the test of the form
 pub struct_formed : (st : States.State) → T (well_formed st) → formed (pack st) ≡ true
 struct_formed st ok =
     let kept : Kept st = formed-kept st ok in
-    formed-pack st (kept-sized kept) kept.taken.tasks-high ∙ of_T (well_formed st) ok
+    formed-pack st (kept-sized kept) kept.taken.tasks_high ∙ of_T (well_formed st) ok

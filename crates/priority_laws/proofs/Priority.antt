@@ -50,7 +50,7 @@ module _ {tbl : Table} {ranks : List ℕ} (r : Priority tbl ranks) where
   -- the order is its heavy tasks and then its light ones
   pub ranks_parts : ranks ≡ filter (heavy tbl) ranks ++ lights_of tbl ranks
   unfolding light
-  ranks_parts = passing_first (heavy tbl) ranks (at_sorted (λ i j. heavy tbl j ≡ true → heavy tbl i ≡ true) ranks r.heavy-first)
+  ranks_parts = passing_first (heavy tbl) ranks (at_sorted (λ i j. heavy tbl j ≡ true → heavy tbl i ≡ true) ranks r.heavy_first)
 
   -- so many tasks are heavy
   ranks-heavies : length (filter (heavy tbl) ranks) ≡ heavy_count tbl
@@ -128,7 +128,7 @@ pub by_key : {tbl : Table} {ranks : List ℕ} → ((i : ℕ) → count (eqb i) r
 by_key {tbl} {ranks} permutes keys =
     record {
       permutes = permutes;
-      heavy-first =
+      heavy_first =
           λ a b low less high.
           key_heavy-first (heavy tbl (at ranks a)) (heavy tbl (at ranks b)) (period_of tbl (at ranks a)) (period_of tbl (at ranks b)) (keys a b low less high);
       rising =

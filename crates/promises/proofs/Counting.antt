@@ -20,8 +20,8 @@ use Rattle.rules.specs.Counts.{cores_in, dropped_by}
 use Rattle.slot_laws.proofs.After.{shows-each}
 use Rattle.slot_laws.proofs.Boundaries.{cores-length}
 use Rattle.slot_laws.proofs.WorkCounts.{done-counted}
-use Rattle.slot_laws.proofs.MoveCounts.{moves-shown, moves-counted}
-use Rattle.slot_laws.proofs.MissCounts.{misses-shown, misses-counted, dropped-counted}
+use Rattle.slot_laws.proofs.MoveCounts.{moves_shown, moves-counted}
+use Rattle.slot_laws.proofs.MissCounts.{misses_shown, misses-counted, dropped-counted}
 use Rattle.slot_laws.proofs.Counts.{dropped_total}
 use Rattle.slot_laws.proofs.SameSlots.{work-same, work-all-same, moved_same, moves-same, missed-same, misses-same, dropped-same}
 use Rattle.bound.specs.Demand3.{Demand3}
@@ -79,15 +79,15 @@ module _ {tbl : Table} {b : ℕ} {frames : List (List ℕ)} (shown : Scheduled t
         dropped = λ i low high. dropped-counted tbl i low high b ∙ sym (dropped-same read (cores_in tbl) b cores-shown tbl i b (le_refl b));
         moves = moves-counted tbl b ∙ sym (moves-same read (cores_in tbl) b cores-shown tbl.m b (le_refl b));
         misses = misses-counted tbl b ∙ sym (misses-same read (cores_in tbl) b cores-shown tbl b (le_refl b));
-        moves-shown = λ s h. moves_read s h ∙ moves-shown tbl s ∙ sym (moved_same read (cores_in tbl) b cores-shown tbl.m s h);
-        misses-shown = λ s h. misses-read s h ∙ misses-shown tbl s ∙ sym (missed-same read (cores_in tbl) b cores-shown tbl s h);
+        moves_shown = λ s h. moves_read s h ∙ moves_shown tbl s ∙ sym (moved_same read (cores_in tbl) b cores-shown tbl.m s h);
+        misses_shown = λ s h. misses-read s h ∙ misses_shown tbl s ∙ sym (missed-same read (cores_in tbl) b cores-shown tbl s h);
       }
 
   -- and demand 3 holds of them
   pub scheduled_on_time : T (accepts tbl) → T (admitted tbl) → FramesOnTime tbl b frames
   scheduled_on_time t a =
       record {
-        none-missed = λ s h. misses-read s h ∙ (demand_3 tbl t a b).none-shown s h;
+        none_missed = λ s h. misses-read s h ∙ (demand_3 tbl t a b).none_shown s h;
         none_dropped =
             λ u i h low high.
             dropped-same read (cores_in tbl) b cores-shown tbl i u h
@@ -123,7 +123,7 @@ module _ {tbl : Table} {b : ℕ} {frames : List (List ℕ)} (w : FramesOnTime tb
   pub first_on_time : FramesOnTime tbl u (take u frames)
   first_on_time =
       record {
-        none-missed = λ s l. ap (misses_of tbl.m) (first_frame s l) ∙ w.none-missed s (omega arith);
+        none_missed = λ s l. ap (misses_of tbl.m) (first_frame s l) ∙ w.none_missed s (omega arith);
         none_dropped = λ v i l low high. dropped-same (placing tbl.m (take u frames)) (placing tbl.m frames) u first-placing tbl i v l ∙ w.none_dropped v i (omega arith) low high;
         lights_ahead =
             λ v k l.

@@ -152,7 +152,7 @@ lossless {tbl} t u {b} g =
     let d : Demand3 tbl b = demand_3 tbl t u b in
     record {
       no_miss = ap (λ (x : State). x.misses) g.says ∙ d.no_miss;
-      no_drop = ap (λ (x : State). x.dropped) g.says ∙ ap (packed units) d.no_drop ∙ none-packed (size tbl) (accepted tbl t).tasks-high;
+      no_drop = ap (λ (x : State). x.dropped) g.says ∙ ap (packed units) d.no_drop ∙ none-packed (size tbl) (accepted tbl t).tasks_high;
     }
 
 judged-admitted : {t : Table} → AdmittedStruct t → T (admitted (Tables.view t))

@@ -26,8 +26,8 @@ pub record Counted (tbl : Table) (b : ℕ) (frames : List (List ℕ)) (st : Stat
   pub dropped : (i : ℕ) → 1 ≤ i → i ≤ size tbl → at st.dropped i ≡ dropped_by tbl (placing tbl.m frames) i b
   pub moves : st.moves ≡ moves_before tbl.m (placing tbl.m frames) b
   pub misses : st.misses ≡ misses_by tbl (placing tbl.m frames) b
-  pub moves-shown : (s : ℕ) → s < b → moves_of tbl.m (frame_of frames s) ≡ moves_at tbl.m (placing tbl.m frames) s
-  pub misses-shown : (s : ℕ) → s < b
+  pub moves_shown : (s : ℕ) → s < b → moves_of tbl.m (frame_of frames s) ≡ moves_at tbl.m (placing tbl.m frames) s
+  pub misses_shown : (s : ℕ) → s < b
       → misses_of tbl.m (frame_of frames s)
       ≡ misses_at tbl (placing tbl.m frames) s
 
@@ -46,7 +46,7 @@ lossless_of tbl b frames = moves_before tbl.m (placing tbl.m frames) b ∷ 0 ∷
 -- demand 3
 pub record FramesOnTime (tbl : Table) (b : ℕ) (frames : List (List ℕ)) : Type 0 where
   -- no frame shows a miss, and no job was given less than it asks for by its deadline
-  pub none-missed : (s : ℕ) → s < b → misses_of tbl.m (frame_of frames s) ≡ 0
+  pub none_missed : (s : ℕ) → s < b → misses_of tbl.m (frame_of frames s) ≡ 0
   pub none_dropped : (u i : ℕ) → u ≤ b → 1 ≤ i → i ≤ size tbl → dropped_by tbl (placing tbl.m frames) i u ≡ 0
   -- at every boundary u up to b the first k light tasks in priority order, for every k, were given at least their shares of u
   -- slots: both sides are scaled by H

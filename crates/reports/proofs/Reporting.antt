@@ -75,7 +75,7 @@ reply_short : (s : List ℕ) (x : Answer Rules.Table) → read_file s ≡ x → 
 unfolding reply
 reply_short s (taken tbl) e =
     let ok : Accepted tbl = accepted tbl (written_read s tbl e).1 in
-    omega (arith, length-report tbl, text_bound tbl.m (size tbl) (slots_of tbl) ok.cores-high ok.tasks-high (omega arith))
+    omega (arith, length-report tbl, text_bound tbl.m (size tbl) (slots_of tbl) ok.cores_high ok.tasks_high (omega arith))
 reply_short s (refused r l) e = omega (arith, length-refusal (number_of r) l)
 
 -- no text is longer than the program's buffer

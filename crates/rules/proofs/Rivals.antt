@@ -46,7 +46,7 @@ period_falls r = let periods : 3 ≤ 2 = r.rising 1 2 (omega arith) (omega arith
 -- a light task before a heavy one
 pub heavy-last : Priority (two 1 5 3 5) in_turn → ⊥
 unfolding heavy heavy_at fraction
-heavy-last r = let task-1-heavy : false ≡ true = r.heavy-first 1 2 (omega arith) (omega arith) (omega arith) refl in never cc
+heavy-last r = let task-1-heavy : false ≡ true = r.heavy_first 1 2 (omega arith) (omega arith) (omega arith) refl in never cc
 
 -- task 1 twice, and task 2 not at all
 pub named_twice : Priority (two 1 2 1 2) (1 ∷ 1 ∷ []) → ⊥

@@ -25,7 +25,7 @@ lights_of tbl ranks = filter (light tbl) ranks
 -- from 1
 pub record Priority (tbl : Table) (ranks : List ℕ) : Type 0 where
   pub permutes : (i : ℕ) → count (eqb i) ranks ≡ count (eqb i) (numbers (size tbl))
-  pub heavy-first : (a b : ℕ) → 1 ≤ a → a < b → b ≤ length ranks → heavy tbl (at ranks b) ≡ true → heavy tbl (at ranks a) ≡ true
+  pub heavy_first : (a b : ℕ) → 1 ≤ a → a < b → b ≤ length ranks → heavy tbl (at ranks b) ≡ true → heavy tbl (at ranks a) ≡ true
   pub rising : (a b : ℕ) → 1 ≤ a → a < b → b ≤ length ranks
       → heavy tbl (at ranks a) ≡ false → heavy tbl (at ranks b) ≡ false
       → (row_of tbl (at ranks a)).t ≤ (row_of tbl (at ranks b)).t

@@ -46,9 +46,9 @@ module _ (s : State) (count : ℕ) (out : List ℕ) (place : ℕ) where
     unfolding view
     in_bounds = formed-clock (view s) (formed_of s good)
 
-    pub few-cores : s.table.m.0 ≤ cores_max
+    pub few_cores : s.table.m.0 ≤ cores_max
     unfolding view Tables.view
-    few-cores = (formed-kept (view s) (formed_of s good)).taken.cores-high
+    few_cores = (formed-kept (view s) (formed_of s good)).taken.cores_high
 
     clock_is : (view s).clock ≡ s.clock.0
     unfolding view

@@ -62,20 +62,20 @@ module _ (s : State) (f : T (formed s)) where
   pub formed_of : T (well_formed (view s))
   formed_of = (formed-says s (of_T (formed s) f)).1
 
-  pub few-tasks : tasks s ≤ tasks_max
-  few-tasks = padded-few s padded_of
+  pub few_tasks : tasks s ≤ tasks_max
+  few_tasks = padded-few s padded_of
 
   kept : Kept (view s)
   kept = formed-kept (view s) formed_of
 
   module _ (full : Full s) (i : ℕ) (more : i < tasks s) where
     in_table : i + 1 ≤ RuleTables.size (Tables.view s.table)
-    in_table = omega (arith, size-view s.table full.rows few-tasks)
+    in_table = omega (arith, size-view s.table full.rows few_tasks)
 
     pub period-low : 1 ≤ (get_or s.table.rows i Tables.zero_row).t
     unfolding view
     period-low =
-        let fits = rw (row_of-view s.table full.rows few-tasks i more) at (kept.taken.row (i + 1) (omega arith) in_table) in
+        let fits = rw (row_of-view s.table full.rows few_tasks i more) at (kept.taken.row (i + 1) (omega arith) in_table) in
         omega (arith, fits)
 
     -- a task's left work, units done and units dropped are what was released of it, which is little
@@ -83,7 +83,7 @@ module _ (s : State) (f : T (formed s)) where
     unfolding view
     units_small =
         let column : (l : List Units) → length l ≡ tasks_max → at (viewed (λ (x : Units). x.0) (tasks s) l) (i + 1) ≡ (get_or l i (units 0)).0 =
-        λ l long. at-viewed (λ x. x.0) (tasks s) l (omega (arith, few-tasks)) (units 0) i refl more
+        λ l long. at-viewed (λ x. x.0) (tasks s) l (omega (arith, few_tasks)) (units 0) i refl more
         in
         let books = (kept.task (i + 1) (omega arith) in_table).books in
         let few = released-fits kept (formed-clock (view s) formed_of) (i + 1) (omega arith) in_table in
@@ -114,7 +114,7 @@ pub start : (s : State) → T (formed s) → Full s → Parting s zeros zeros ze
 start s f full =
     record {
       full = full;
-      few = few-tasks s f;
+      few = few_tasks s f;
       within = zero-le;
       cs = copy_start _ full.rows refl;
       ts = copy_start _ full.rows refl;

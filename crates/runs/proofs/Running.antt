@@ -28,7 +28,7 @@ use Rattle.runs.specs.declared.parts.Parts.{Parts}
 use Rattle.runs.specs.Parts.{plain, parts_of, joined}
 use Rattle.runs.specs.Slots.{state_of, frame_length, Runnable, RanSlots}
 use Rattle.runs.specs.Answers.{Open, RunFormed}
-use Rattle.runs.proofs.Parting.{padded_of, formed_of, few-tasks}
+use Rattle.runs.proofs.Parting.{padded_of, formed_of, few_tasks}
 
 -- the rows of a table's own columns
 rows_back : (rows : List Rules.Row) → rows_of (map (λ r. r.c) rows) (map (λ r. r.t) rows) ≡ rows
@@ -70,7 +70,7 @@ pub record Columns (n : ℕ) (p : Parts) (st : States.State) : Type 0 where
 
 module _ {s : State} {count : ℕ} {out : List ℕ} (o : Open s count out) (full : Full s) where
   few : tasks s ≤ tasks_max
-  few = few-tasks s o.good
+  few = few_tasks s o.good
 
   kept : Kept (view s)
   kept = formed-kept (view s) (formed_of s o.good)
@@ -119,10 +119,10 @@ module _ {s : State} {count : ℕ} {out : List ℕ} (o : Open s count out) (full
           t = column _ few (length-map (view s).table.rows (λ r. r.t) ∙ size_is) (ap (λ (x : Parts). x.t) e);
           ranks = column _ few (length-viewed (λ x. x.0) (tasks s) s.ranks (omega (arith, few, full.ranks))) (ap (λ (x : Parts). x.ranks) e);
           phase = column _ few (length-each (RuleTables.size (view s).table) _ ∙ size_is) (ap (λ (x : Parts). x.phase) e);
-          left = column _ few (kept.left-length ∙ size_is) (ap (λ (x : Parts). x.left) e);
-          last = column _ few (kept.last-length ∙ size_is) (ap (λ (x : Parts). x.last) e);
-          done = column _ few (kept.done-length ∙ size_is) (ap (λ (x : Parts). x.done) e);
-          dropped = column _ few (kept.dropped-length ∙ size_is) (ap (λ (x : Parts). x.dropped) e);
+          left = column _ few (kept.left_length ∙ size_is) (ap (λ (x : Parts). x.left) e);
+          last = column _ few (kept.last_length ∙ size_is) (ap (λ (x : Parts). x.last) e);
+          done = column _ few (kept.done_length ∙ size_is) (ap (λ (x : Parts). x.done) e);
+          dropped = column _ few (kept.dropped_length ∙ size_is) (ap (λ (x : Parts). x.dropped) e);
         }
 
     -- the arrays' fronts say the state
@@ -176,10 +176,10 @@ module _ {s : State} {count : ℕ} {out : List ℕ} (o : Open s count out) (full
             table = table_end j;
             ranks = ranks_end j;
             clock = record { 0 = (ended j).clock };
-            left = packed units (front left-rest end.left (ap (λ (x : States.State). x.left) ended) kept_end.left-length j);
-            last = packed core_number (front last_rest end.last (ap (λ (x : States.State). x.last) ended) kept_end.last-length j);
-            done = packed units (front done-rest end.done (ap (λ (x : States.State). x.done) ended) kept_end.done-length j);
-            dropped = packed units (front dropped-rest end.dropped (ap (λ (x : States.State). x.dropped) ended) kept_end.dropped-length j);
+            left = packed units (front left-rest end.left (ap (λ (x : States.State). x.left) ended) kept_end.left_length j);
+            last = packed core_number (front last_rest end.last (ap (λ (x : States.State). x.last) ended) kept_end.last_length j);
+            done = packed units (front done-rest end.done (ap (λ (x : States.State). x.done) ended) kept_end.done_length j);
+            dropped = packed units (front dropped-rest end.dropped (ap (λ (x : States.State). x.dropped) ended) kept_end.dropped_length j);
             moves = (ended j).moves;
             misses = (ended j).misses;
           }

@@ -82,13 +82,13 @@ released_now {m} {c = c} {t} {ranks} {left = left} {last} {done} {dropped} {move
 -- there is an entry a task in each list
 module _ {m clock count : ℕ} {c t ranks phase left last done dropped out : List ℕ} {moves misses : ℕ}
     (r : Runnable (state_of m clock c t ranks left last done dropped moves misses) count c t phase out) where
-  pub few-tasks : length left ≤ 64
-  few-tasks = omega (arith, (formed-kept _ r.formed).left-length, (formed-kept _ r.formed).taken.tasks-high)
+  pub few_tasks : length left ≤ 64
+  few_tasks = omega (arith, (formed-kept _ r.formed).left_length, (formed-kept _ r.formed).taken.tasks_high)
 
   pub lengths : (length phase ≡ length left) × (length c ≡ length left)
   unfolding phases_in
   lengths =
-      let size_is : length left ≡ size (table_of m c t) = (formed-kept _ r.formed).left-length in (
+      let size_is : length left ≡ size (table_of m c t) = (formed-kept _ r.formed).left_length in (
         ap length r.phases ∙ length-each (size (table_of m c t)) _ ∙ sym size_is,
         ap length (sym (units_of_lem m c t r.columns)) ∙ length-map (table_of m c t).rows (λ x. x.c) ∙ sym size_is,
       )
@@ -111,8 +111,8 @@ module _ {st : State} {count : ℕ} {c t phase₀ out₀ : List ℕ} (r : Runnab
   kept₀ : Kept st
   kept₀ = formed-kept st r.formed
 
-  pub few-cores : st.table.m ≤ cores_max
-  few-cores = kept₀.taken.cores-high
+  pub few_cores : st.table.m ≤ cores_max
+  few_cores = kept₀.taken.cores_high
 
   module _ {phase left last done dropped out : List ℕ} {moves misses place k : ℕ}
       (g : Run st count c t out₀ phase left last done dropped out moves misses place k) where
@@ -215,14 +215,14 @@ module _ {st : State} {count : ℕ} {c t phase₀ out₀ : List ℕ} (r : Runnab
       -- the totals do not wrap
       pub moves_fit : moves + moved < 2 ^ 64
       moves_fit =
-          omega (arith, r.in_time, kept_next.moves-few, mul-le-mul_right {m = m} {n = 32} (st.clock + (k + 1)) kept_next.taken.cores-high)
+          omega (arith, r.in_time, kept_next.moves_few, mul-le-mul_right {m = m} {n = 32} (st.clock + (k + 1)) kept_next.taken.cores_high)
 
       pub misses_fit : misses + missed < 2 ^ 64
-      misses_fit = omega (arith, r.in_time, kept_next.misses-few)
+      misses_fit = omega (arith, r.in_time, kept_next.misses_few)
 
       -- what the frame asks
       pub frame-room : (length cores' ≤ cores_max) × (frame_length (length cores') ≤ length (take (length out - place) (drop place out)))
-      frame-room = (omega (arith, few-cores, cores_wide), simp (length-take, length-drop) (omega (arith, place-room more, cores_wide)))
+      frame-room = (omega (arith, few_cores, cores_wide), simp (length-take, length-drop) (omega (arith, place-room more, cores_wide)))
 
       pub turn : {tail : List ℕ} {length-of : ℕ} → length-of ≡ frame_length m
           → tail ≡ slot_line (shown_as (st.clock + k) cores' moved missed) ++ drop (frame_length (length cores')) (take (length out - place) (drop place out))
@@ -239,28 +239,28 @@ module _ {st : State} {count : ℕ} {c t phase₀ out₀ : List ℕ} (r : Runnab
           }
 
     -- every list keeps its length
-    pub left-size : length left ≡ length st.left
-    left-size = ap length g.lefts ∙ release-size st.table (st.clock + k) (after k st).left ∙ sym kept₀.left-length
+    pub left_size : length left ≡ length st.left
+    left_size = ap length g.lefts ∙ release-size st.table (st.clock + k) (after k st).left ∙ sym kept₀.left_length
 
-    pub last-size : length last ≡ length st.last
-    last-size = kept.last-length ∙ ap size table_same ∙ sym kept₀.last-length
+    pub last_size : length last ≡ length st.last
+    last_size = kept.last_length ∙ ap size table_same ∙ sym kept₀.last_length
 
-    pub done-size : length done ≡ length st.done
-    done-size = kept.done-length ∙ ap size table_same ∙ sym kept₀.done-length
+    pub done_size : length done ≡ length st.done
+    done_size = kept.done_length ∙ ap size table_same ∙ sym kept₀.done_length
 
-    pub dropped-size : length dropped ≡ length st.dropped
-    dropped-size = kept.dropped-length ∙ ap size table_same ∙ sym kept₀.dropped-length
+    pub dropped_size : length dropped ≡ length st.dropped
+    dropped_size = kept.dropped_length ∙ ap size table_same ∙ sym kept₀.dropped_length
 
-    pub phase-size : length phase ≡ length phase₀
+    pub phase_size : length phase ≡ length phase₀
     unfolding phases_in
-    phase-size = rw (g.phases, r.phases, length-each (size st.table) _, length-each (size st.table) _)
+    phase_size = rw (g.phases, r.phases, length-each (size st.table) _, length-each (size st.table) _)
 
     -- what a release of no units after the last slot asks
     pub last_lengths : (n : ℕ) → n ≡ length st.left → n ≤ 64 → (length phase ≡ length left) × (length (take n zeros) ≡ length left)
     unfolding phases_in
     last_lengths n e few = (
-      ap length g.phases ∙ length-each (size st.table) _ ∙ sym kept₀.left-length ∙ sym left-size,
-      length-take-le n zeros few ∙ e ∙ sym left-size,
+      ap length g.phases ∙ length-each (size st.table) _ ∙ sym kept₀.left_length ∙ sym left_size,
+      length-take-le n zeros few ∙ e ∙ sym left_size,
     )
 
     -- a release of no units after the last slot gives the state's own left work
@@ -269,7 +269,7 @@ module _ {st : State} {count : ℕ} {c t phase₀ out₀ : List ℕ} (r : Runnab
 
     pub left_end : (n : ℕ) {left'' : List ℕ} → left'' ≡ released_on (take n zeros) phase left → length left'' ≡ length st.left
     unfolding released_on
-    left_end n e = ap length e ∙ length-each (length left) _ ∙ left-size
+    left_end n e = ap length e ∙ length-each (length left) _ ∙ left_size
 
     -- the last slot was run
     pub ended : count ≤ k → (n : ℕ) {left'' : List ℕ} → left'' ≡ released_on (take n zeros) phase left

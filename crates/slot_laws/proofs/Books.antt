@@ -75,14 +75,14 @@ unfolding fresh
 fresh_kept tbl a =
     record {
       taken = a;
-      left-length = length-replicate (size tbl) 0;
-      last-length = length-replicate (size tbl) 0;
-      done-length = length-replicate (size tbl) 0;
-      dropped-length = length-replicate (size tbl) 0;
+      left_length = length-replicate (size tbl) 0;
+      last_length = length-replicate (size tbl) 0;
+      done_length = length-replicate (size tbl) 0;
+      dropped_length = length-replicate (size tbl) 0;
       ranked = refl;
       task = task;
-      moves-few = omega arith;
-      misses-few = omega arith;
+      moves_few = omega arith;
+      misses_few = omega arith;
     }
   where
     task : (i : ℕ) → 1 ≤ i → i ≤ size tbl → TaskKept (fresh tbl) i
@@ -224,14 +224,14 @@ module _ {st : State} (kept : Kept st) (cores : List ℕ) (backed : Backed st co
   effect-kept =
       record {
         taken = kept.taken;
-        left-length = length-each (size st.table) _;
-        last-length = length-each (size st.table) _;
-        done-length = length-each (size st.table) _;
-        dropped-length = length-each (size st.table) _;
+        left_length = length-each (size st.table) _;
+        last_length = length-each (size st.table) _;
+        done_length = length-each (size st.table) _;
+        dropped_length = length-each (size st.table) _;
         ranked = kept.ranked;
         task = effect-task;
-        moves-few = omega (arith, effect-moves st (ready st) cores);
-        misses-few = omega (arith, effect-misses st (ready st) cores);
+        moves_few = omega (arith, effect-moves st (ready st) cores);
+        misses_few = omega (arith, effect-misses st (ready st) cores);
       }
 
 -- an order by priority names no task twice, and no task 0

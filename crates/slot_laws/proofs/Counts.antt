@@ -13,8 +13,8 @@ use Rattle.rules.specs.Counts.{cores_in, dropped_by, misses_at, moves_at}
 use Rattle.slot_laws.proofs.After.{shows-each}
 use Rattle.slot_laws.proofs.Given.{own_run, dropped-length_with}
 use Rattle.slot_laws.proofs.Boundaries.{shown-slot}
-use Rattle.slot_laws.proofs.MoveCounts.{moves-shown}
-use Rattle.slot_laws.proofs.MissCounts.{dropped-counted, misses-shown}
+use Rattle.slot_laws.proofs.MoveCounts.{moves_shown}
+use Rattle.slot_laws.proofs.MissCounts.{dropped-counted, misses_shown}
 
 -- slot s: its number, its placing, and its own share of the moves and of the misses
 abbrev pub shown_in : Table → ℕ → Shown
@@ -29,7 +29,7 @@ shown_in tbl s =
 -- a slot of a table's run shows just that
 pub shown-counted : (tbl : Table) (s : ℕ) → (slot (after s (fresh tbl))).shown ≡ shown_in tbl s
 unfolding cores_in
-shown-counted tbl s = λ i. record { slot = shown-slot tbl s i; cores = cores_in tbl s; moves = moves-shown tbl s i; misses = misses-shown tbl s i }
+shown-counted tbl s = λ i. record { slot = shown-slot tbl s i; cores = cores_in tbl s; moves = moves_shown tbl s i; misses = misses_shown tbl s i }
 
 -- what the first b slots of a run show
 pub shows-counted : (tbl : Table) (b : ℕ) → shows b (fresh tbl) ≡ map (shown_in tbl) (from 0 b)

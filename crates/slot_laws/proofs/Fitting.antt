@@ -103,11 +103,11 @@ module _ {st : State} (kept : Kept st) where
 
     -- so that all units dropped fit 64 bits
     pub dropped-small : sum st.dropped < 2 ^ 64
-    dropped-small = omega (arith, sum-most st.dropped released_max dropped-most, mul-le-mul_right released_max kept.taken.tasks-high)
+    dropped-small = omega (arith, sum-most st.dropped released_max dropped-most, mul-le-mul_right released_max kept.taken.tasks_high)
 
     pub totals-fits : Fits (Frames.totals).widths (totals_numbers st)
     totals-fits =
-        let moves : st.table.m * st.clock ≤ cores_max * clock_max = mul-le-mul kept.taken.cores-high soon in
+        let moves : st.table.m * st.clock ≤ cores_max * clock_max = mul-le-mul kept.taken.cores_high soon in
         (omega arith, (omega arith, (dropped-small, tt)))
 
     pub totals-read : (rest : List ℕ) → read_frame Frames.totals (totals_line st ++ rest) ≡ some (record { got = totals_numbers st; rest = rest })

@@ -23,10 +23,10 @@ use Rattle.reading_laws.proofs.Tests.{accepts-iff, every_get_or, get_or_every}
 
 -- what the tests of a list of rows leave
 pub record Accepted (tbl : Table) : Type 0 where
-  pub cores-low : cores_min ≤ tbl.m
-  pub cores-high : tbl.m ≤ cores_max
-  pub tasks-low : tasks_min ≤ size tbl
-  pub tasks-high : size tbl ≤ tasks_max
+  pub cores_low : cores_min ≤ tbl.m
+  pub cores_high : tbl.m ≤ cores_max
+  pub tasks_low : tasks_min ≤ size tbl
+  pub tasks_high : size tbl ≤ tasks_max
   pub row : (i : ℕ) → 1 ≤ i → i ≤ size tbl → RowInBounds (row_of tbl i)
   pub repeat : repeat_length tbl.rows ≤ repeat_max
 
@@ -35,10 +35,10 @@ pub accepted : (tbl : Table) → T (accepts tbl) → Accepted tbl
 accepted tbl t =
     let b = (accepts-iff tbl).0 t in
     record {
-      cores-low = b.cores.least;
-      cores-high = b.cores.most;
-      tasks-low = b.tasks.least;
-      tasks-high = b.tasks.most;
+      cores_low = b.cores.least;
+      cores_high = b.cores.most;
+      tasks_low = b.tasks.least;
+      tasks_high = b.tasks.most;
       row = fine b.fine;
       repeat = b.repeat;
     }
@@ -51,8 +51,8 @@ pub accepts_of : (tbl : Table) → Accepted tbl → T (accepts tbl)
 accepts_of tbl a =
     (accepts-iff tbl).1
     (record {
-      cores = record { least = a.cores-low; most = a.cores-high };
-      tasks = record { least = a.tasks-low; most = a.tasks-high };
+      cores = record { least = a.cores_low; most = a.cores_high };
+      tasks = record { least = a.tasks_low; most = a.tasks_high };
       fine = get_or_every RowInBounds tbl.rows no_row (λ i h. a.row (suc i) (omega arith) h);
       repeat = a.repeat;
     })
@@ -69,14 +69,14 @@ pub record TaskKept (st : State) (i : ℕ) : Type 0 where
 -- all that makes a state well formed, but for the bound of its clock
 pub record Kept (st : State) : Type 0 where
   pub taken : Accepted st.table
-  pub left-length : length st.left ≡ size st.table
-  pub last-length : length st.last ≡ size st.table
-  pub done-length : length st.done ≡ size st.table
-  pub dropped-length : length st.dropped ≡ size st.table
+  pub left_length : length st.left ≡ size st.table
+  pub last_length : length st.last ≡ size st.table
+  pub done_length : length st.done ≡ size st.table
+  pub dropped_length : length st.dropped ≡ size st.table
   pub ranked : st.ranks ≡ order st.table
   pub task : (i : ℕ) → 1 ≤ i → i ≤ size st.table → TaskKept st i
-  pub moves-few : st.moves ≤ st.table.m * st.clock
-  pub misses-few : st.misses ≤ tasks_max * st.clock
+  pub moves_few : st.moves ≤ st.table.m * st.clock
+  pub misses_few : st.misses ≤ tasks_max * st.clock
 
 -- a task is well formed exactly where this is kept of it
 task-kept : (st : State) (i : ℕ) → T (task_formed st i) → TaskKept st i
@@ -102,14 +102,14 @@ unfolding well_formed sized
 formed-kept st t =
     record {
       taken = accepted st.table (search (and_left));
-      left-length = search (and_left, and_right, eqb→eq) depth 9;
-      last-length = search (and_left, and_right, eqb→eq) depth 9;
-      done-length = search (and_left, and_right, eqb→eq) depth 9;
-      dropped-length = search (and_left, and_right, eqb→eq) depth 9;
+      left_length = search (and_left, and_right, eqb→eq) depth 9;
+      last_length = search (and_left, and_right, eqb→eq) depth 9;
+      done_length = search (and_left, and_right, eqb→eq) depth 9;
+      dropped_length = search (and_left, and_right, eqb→eq) depth 9;
       ranked = search (and_left, and_right, same→eq);
       task = λ i low high. task-kept st i (all-numbers (task_formed st) (size st.table) (search (and_left, and_right)) i low high);
-      moves-few = search (and_left, and_right, leb→le);
-      misses-few = search (and_right, leb→le);
+      moves_few = search (and_left, and_right, leb→le);
+      misses_few = search (and_right, leb→le);
     }
 
 pub formed-clock : (st : State) → T (well_formed st) → st.clock ≤ clock_max

@@ -120,8 +120,8 @@ module _ (tbl : Table) where
   pub dropped-counted : (i : ℕ) → 1 ≤ i → i ≤ size tbl → (b : ℕ) → at (after b (fresh tbl)).dropped i ≡ dropped_by tbl (cores_in tbl) i b
   dropped-counted i low high b = rw (own_run tbl b) (dropped-counted_with tbl (order tbl) (cores_in tbl) i low high b (own_modest b))
 
-  pub misses-shown : (b : ℕ) → (slot (after b (fresh tbl))).shown.misses ≡ misses_at tbl (cores_in tbl) b
-  misses-shown b = rw (own_slot tbl b) (misses-shown_with tbl (order tbl) (cores_in tbl) b (own_modest (suc b)))
+  pub misses_shown : (b : ℕ) → (slot (after b (fresh tbl))).shown.misses ≡ misses_at tbl (cores_in tbl) b
+  misses_shown b = rw (own_slot tbl b) (misses-shown_with tbl (order tbl) (cores_in tbl) b (own_modest (suc b)))
 
   pub misses-counted : (b : ℕ) → (after b (fresh tbl)).misses ≡ misses_by tbl (cores_in tbl) b
   misses-counted b = rw (own_run tbl b) (misses-counted_with tbl (order tbl) (cores_in tbl) b (own_modest b))

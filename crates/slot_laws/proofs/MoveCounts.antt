@@ -62,8 +62,8 @@ module _ (tbl : Table) (ranks : List ℕ) (run : ℕ → List ℕ) where
 -- ---- a table's own run
 
 module _ (tbl : Table) where
-  pub moves-shown : (b : ℕ) → (slot (after b (fresh tbl))).shown.moves ≡ moves_at tbl.m (cores_in tbl) b
-  moves-shown b = rw (own_slot tbl b) (moves-shown_with tbl (order tbl) (cores_in tbl) b (own_fair tbl (suc b) b (le_refl (suc b))))
+  pub moves_shown : (b : ℕ) → (slot (after b (fresh tbl))).shown.moves ≡ moves_at tbl.m (cores_in tbl) b
+  moves_shown b = rw (own_slot tbl b) (moves-shown_with tbl (order tbl) (cores_in tbl) b (own_fair tbl (suc b) b (le_refl (suc b))))
 
   pub moves-counted : (b : ℕ) → (after b (fresh tbl)).moves ≡ moves_before tbl.m (cores_in tbl) b
   moves-counted b = rw (own_run tbl b) (moves-counted_with tbl (order tbl) (cores_in tbl) b (own_fair tbl b))

@@ -92,7 +92,7 @@ module _ (bs : List ℕ) where
       too_many h =
           ap state_answer
           (sym
-          (⊎_elim (λ (e : well_formed (decoded bs) ≡ true). absurd (omega (arith, (formed-kept (decoded bs) (to_T e)).taken.tasks-high, decoded-size bs, counted)))
+          (⊎_elim (λ (e : well_formed (decoded bs) ≡ true). absurd (omega (arith, (formed-kept (decoded bs) (to_T e)).taken.tasks_high, decoded-size bs, counted)))
           (λ (e : well_formed (decoded bs) ≡ false). not_formed bs right-length e)
           (decide (well_formed (decoded bs)))))
 

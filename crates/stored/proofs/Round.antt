@@ -37,8 +37,8 @@ use Rattle.stored.proofs.Fields.{Fit, length-written, read-written, bytes_drop, 
 module _ {st : State} (kept : Kept st) (clock : st.clock ≤ clock_max) where
   fixed_fits : Fit fixed_widths (fixed_of st)
   fixed_fits =
-      let moves : st.table.m * st.clock ≤ 32 * clock_max = mul-le-mul kept.taken.cores-high clock in
-      (omega (arith, kept.taken), (omega (arith, kept.taken), (omega arith, (omega (arith, kept.moves-few), (omega (arith, kept.misses-few), tt)))))
+      let moves : st.table.m * st.clock ≤ 32 * clock_max = mul-le-mul kept.taken.cores_high clock in
+      (omega (arith, kept.taken), (omega (arith, kept.taken), (omega arith, (omega (arith, kept.moves_few), (omega (arith, kept.misses_few), tt)))))
 
   module _ (i : ℕ) (low : 1 ≤ i) (high : i ≤ size st.table) where
     released-small : released (row_of st.table i) st.clock < 2 ^ 64
@@ -112,10 +112,10 @@ module _ {st : State} (kept : Kept st) (clock : st.clock ≤ clock_max) where
         table = record { m = ap (λ (l : List ℕ). at l 1) fixed_back j; rows = rows_back j };
         ranks = column_back (λ i. at (task_in (store st) i) 3) st.ranks (ap length kept.ranked ∙ order-length st.table) (λ i low high. ap (λ (l : List ℕ). at l 3) (task_back i low high)) j;
         clock = ap (λ (l : List ℕ). at l 3) fixed_back j;
-        left = column_back (λ i. at (task_in (store st) i) 5) st.left kept.left-length (λ i low high. ap (λ (l : List ℕ). at l 5) (task_back i low high)) j;
-        last = column_back (λ i. at (task_in (store st) i) 4) st.last kept.last-length (λ i low high. ap (λ (l : List ℕ). at l 4) (task_back i low high)) j;
-        done = column_back (λ i. at (task_in (store st) i) 6) st.done kept.done-length (λ i low high. ap (λ (l : List ℕ). at l 6) (task_back i low high)) j;
-        dropped = column_back (λ i. at (task_in (store st) i) 7) st.dropped kept.dropped-length (λ i low high. ap (λ (l : List ℕ). at l 7) (task_back i low high)) j;
+        left = column_back (λ i. at (task_in (store st) i) 5) st.left kept.left_length (λ i low high. ap (λ (l : List ℕ). at l 5) (task_back i low high)) j;
+        last = column_back (λ i. at (task_in (store st) i) 4) st.last kept.last_length (λ i low high. ap (λ (l : List ℕ). at l 4) (task_back i low high)) j;
+        done = column_back (λ i. at (task_in (store st) i) 6) st.done kept.done_length (λ i low high. ap (λ (l : List ℕ). at l 6) (task_back i low high)) j;
+        dropped = column_back (λ i. at (task_in (store st) i) 7) st.dropped kept.dropped_length (λ i low high. ap (λ (l : List ℕ). at l 7) (task_back i low high)) j;
         moves = ap (λ (l : List ℕ). at l 4) fixed_back j;
         misses = ap (λ (l : List ℕ). at l 5) fixed_back j;
       }

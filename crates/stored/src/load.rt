@@ -1,7 +1,7 @@
 // Bytes read as a state, for any byte string of any length: decoded by the layout, and tested.
 ghost use Rattle.std.specs.Prelude.{◌≡◌, map};
 ghost use Rattle.laws.specs.Lists.{numbers, each};
-ghost use Rattle.rules.specs.Refusals.{refused as refusedWith};
+ghost use Rattle.rules.specs.Refusals.{refused as refused_with};
 ghost use Rattle.tables.specs.Views.{pack_row, pack_rows};
 ghost use Rattle.machine.specs.Views.{task_number, core_number, units as units_of, packed, pack};
 ghost use Rattle.stored.specs.Layout.{place_of, decoded, load as loaded};
@@ -149,7 +149,7 @@ fn decode(bytes: &[u8], n: usize) -> State
 }
 
 fn refused() -> StateAnswer
-    ensures { result ≡ state_answer (refusedWith Refusal.BadState 0) }
+    ensures { result ≡ state_answer (refused_with Refusal.BadState 0) }
 {
     StateAnswer {
         outcome: Outcome::Refused(Refusal::BadState),

@@ -129,8 +129,8 @@ header-good m n a b e = by_cases (first (header_tests m n)) refl e
     by_cases (some y) p e = never cc
 
 -- a list that passed has at most 64 rows
-pub few-tasks : (m n : ℕ) → T (passes (header_tests m n)) → n ≤ 64
-few-tasks m n t = ((header-iff m n).0 t).1.most
+pub few_tasks : (m n : ℕ) → T (passes (header_tests m n)) → n ≤ 64
+few_tasks m n t = ((header-iff m n).0 t).1.most
 
 module _ (m : ℕ) (list : List (List ℕ)) where
   abbrev rows_of : List Rules.Row

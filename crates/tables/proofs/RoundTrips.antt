@@ -108,7 +108,7 @@ pub read_then_write : (ιs : _) (b : _) (x : _) (e : _) → read-file.Post ιs b
     → a.0 ≡ (view t).m → list_rows a.1.0.now ≡ (view t).rows
     → a.1.1.1.0 + length b.0.now ≤ length a.1.1.0.now
     → made r s.1.1.0.now ≡ made (Written (length b.0.now)) (lay a.1.1.0.now a.1.1.1.0 b.0.now)
-read_then_write ιs b x e read t took κs a r s wrote same-m same_rows room =
+read_then_write ιs b x e read t took κs a r s wrote same_m same_rows room =
     wrote
-    ∙ ap₂ (λ (m : ℕ) (rows : List Rules.Row). written_list m rows a.1.1.0.now a.1.1.1.0) same-m same_rows
+    ∙ ap₂ (λ (m : ℕ) (rows : List Rules.Row). written_list m rows a.1.1.0.now a.1.1.1.0) same_m same_rows
     ∙ write_what_was_read b.0.now t (sym took ∙ read) a.1.1.0.now a.1.1.1.0 room

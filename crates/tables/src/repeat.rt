@@ -2,7 +2,7 @@
 ghost use Rattle.std.specs.Prelude.{◌≡◌, min};
 ghost use Rattle.rules.specs.Kinds.{repeat_of};
 ghost use Rattle.rules.specs.Refusals.{settle};
-ghost use Rattle.rules.specs.Repeat.{lcm as lcmOf, repeat_length};
+ghost use Rattle.rules.specs.Repeat.{lcm as lcm_of, repeat_length};
 ghost use Rattle.rules.specs.Tables.{whole_tests};
 ghost use Rattle.tables.specs.Repeats.{Gcd, Reached};
 ghost use Rattle.tables.specs.Views.{view, table_answer, Formed};
@@ -36,7 +36,7 @@ fn wide(x: u32) -> u64
 // has, leaves h as it is, as the definition does.)
 fn lcm(h: Repeat, t: u32) -> RepeatAnswer
     requires { Reached h }
-    ensures { result ≡ repeat_of (lcmOf h.0 t) }
+    ensures { result ≡ repeat_of (lcm_of h.0 t) }
 {
     if t == 0 {
         return RepeatAnswer::Within(h);

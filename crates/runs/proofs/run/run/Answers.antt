@@ -4,7 +4,7 @@ use mathlib.Core.List.{[]}
 use lib.Dec.{T}
 use Rattle.laws.proofs.Tests.{to_T}
 use Rattle.machine.specs.Views.{formed}
-use Rattle.runs.proofs.Answering.{refuse_state, in_bounds, few-cores, short_is, refuse_clock, refuse_room, take-run}
+use Rattle.runs.proofs.Answering.{refuse_state, in_bounds, few_cores, short_is, refuse_clock, refuse_room, take-run}
 use Rattle.runs.proofs.run.run.Goals as goal
 
 pub returns-then-not-is_formed : goal.returns-then-not-is_formed
@@ -19,7 +19,7 @@ is_past-late-requires c =
 pub length_of-requires : goal.length_of-requires
 length_of-requires c =
     let good : T (formed c.args.s) = to_T (sym c.is_formed.ensures ∙ c.if-not-is_formed.false) in
-    few-cores _ 0 [] 0 good
+    few_cores _ 0 [] 0 good
 
 pub returns-then-late : goal.returns-then-late
 returns-then-late c =

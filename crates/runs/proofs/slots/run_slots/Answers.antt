@@ -2,11 +2,11 @@
 use mathlib.Core.Path.{sym, ap}
 use lib.ListN.{length}
 use lib.Seq.{length-take-le}
-use Rattle.runs.proofs.SlotLoop.{zeros_front, few-tasks, lengths, told, still, few-cores, start, slot-ready, front-placing, front_long, moves_fit, misses_fit, turn, last_lengths, ended}
+use Rattle.runs.proofs.SlotLoop.{zeros_front, few_tasks, lengths, told, still, few_cores, start, slot-ready, front-placing, front_long, moves_fit, misses_fit, turn, last_lengths, ended}
 use Rattle.runs.proofs.slots.run_slots.Goals as goal
 
 pub frame_length-width-requires : goal.frame_length-width-requires
-frame_length-width-requires c = few-cores c.requires
+frame_length-width-requires c = few_cores c.requires
 
 pub release-requires : goal.release-requires
 release-requires c = lengths c.requires
@@ -18,49 +18,49 @@ loop-k-init c =
     rw (told pre e) (start _ pre e)
 
 pub slice_bounds-cores-end : goal.slice_bounds-cores-end
-slice_bounds-cores-end c = few-cores c.requires
+slice_bounds-cores-end c = few_cores c.requires
 
 pub slice_bounds-slot-end : goal.slice_bounds-slot-end
-slice_bounds-slot-end c = sym (length-take-le _ _ (few-cores c.requires))
+slice_bounds-slot-end c = sym (length-take-le _ _ (few_cores c.requires))
 
 pub slot-shown-requires : goal.slot-shown-requires
 slot-shown-requires c =
-    (slot-ready (still c.requires c.release.ensures) c.loop-k.invariant (length-take-le _ _ (few-cores c.requires)), zeros_front 32 c.args.m)
+    (slot-ready (still c.requires c.release.ensures) c.loop-k.invariant (length-take-le _ _ (few_cores c.requires)), zeros_front 32 c.args.m)
 
 pub slice_bounds-cores-end-in-loop-k : goal.slice_bounds-cores-end-in-loop-k
 slice_bounds-cores-end-in-loop-k c =
-    front_long (still c.requires c.release.ensures) c.loop-k.invariant c.loop-k-test.true (length-take-le _ _ (few-cores c.requires)) c.slot-shown.ensures _
+    front_long (still c.requires c.release.ensures) c.loop-k.invariant c.loop-k-test.true (length-take-le _ _ (few_cores c.requires)) c.slot-shown.ensures _
 
 pub slice_bounds-write_slot-end-in-loop-k : goal.slice_bounds-write_slot-end-in-loop-k
 slice_bounds-write_slot-end-in-loop-k c =
-    sym (length-take-le _ _ (front_long (still c.requires c.release.ensures) c.loop-k.invariant c.loop-k-test.true (length-take-le _ _ (few-cores c.requires)) c.slot-shown.ensures _))
+    sym (length-take-le _ _ (front_long (still c.requires c.release.ensures) c.loop-k.invariant c.loop-k-test.true (length-take-le _ _ (few_cores c.requires)) c.slot-shown.ensures _))
 
 pub overflow_add-moves : goal.overflow_add-moves
 overflow_add-moves c =
-    record { fits = moves_fit (still c.requires c.release.ensures) c.loop-k.invariant c.loop-k-test.true (length-take-le _ _ (few-cores c.requires)) c.slot-shown.ensures }
+    record { fits = moves_fit (still c.requires c.release.ensures) c.loop-k.invariant c.loop-k-test.true (length-take-le _ _ (few_cores c.requires)) c.slot-shown.ensures }
 
 pub overflow_add-misses : goal.overflow_add-misses
 overflow_add-misses c =
-    record { fits = misses_fit (still c.requires c.release.ensures) c.loop-k.invariant c.loop-k-test.true (length-take-le _ _ (few-cores c.requires)) c.slot-shown.ensures }
+    record { fits = misses_fit (still c.requires c.release.ensures) c.loop-k.invariant c.loop-k-test.true (length-take-le _ _ (few_cores c.requires)) c.slot-shown.ensures }
 
 pub loop-k-preserved : goal.loop-k-preserved
 loop-k-preserved c =
     let run = still c.requires c.release.ensures in
-    let wide = (length-take-le _ _ (few-cores c.requires)) in
+    let wide = (length-take-le _ _ (few_cores c.requires)) in
     turn run c.loop-k.invariant c.loop-k-test.true wide c.slot-shown.ensures c.frame_length-width.ensures
     (rw (front-placing run c.loop-k.invariant c.loop-k-test.true wide c.slot-shown.ensures _) at c.write_slot.ensures)
 
 pub slice_bounds-none-end : goal.slice_bounds-none-end
-slice_bounds-none-end c = few-tasks c.requires
+slice_bounds-none-end c = few_tasks c.requires
 
 pub slice_bounds-release-end : goal.slice_bounds-release-end
-slice_bounds-release-end c = sym (length-take-le _ _ (few-tasks c.requires))
+slice_bounds-release-end c = sym (length-take-le _ _ (few_tasks c.requires))
 
 pub release-requires-2 : goal.release-requires-2
 release-requires-2 c =
     let pre = c.requires in
     let e = c.release.ensures in
-    last_lengths (still pre e) c.loop-k.invariant _ (ap length (sym (told pre e))) (few-tasks pre)
+    last_lengths (still pre e) c.loop-k.invariant _ (ap length (sym (told pre e))) (few_tasks pre)
 
 pub returns : goal.returns
 returns c =

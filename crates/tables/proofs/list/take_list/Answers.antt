@@ -13,7 +13,7 @@ use Rattle.tables.specs.declared.table.Row.{Row}
 use Rattle.tables.specs.declared.table.Outcome.{Outcome}
 use Rattle.tables.specs.declared.table.RowsAnswer.{RowsAnswer}
 use Rattle.tables.proofs.Views.{view-pack, packed-formed}
-use Rattle.tables.proofs.Lists.{HeaderPassed, header-good, few-tasks, list_stops, list_rows_stop, list_rows_end, list_table}
+use Rattle.tables.proofs.Lists.{HeaderPassed, header-good, few_tasks, list_stops, list_rows_stop, list_rows_end, list_table}
 use Rattle.tables.proofs.list.take_list.Goals as goal
 
 abbrev outcome-of : RowsAnswer → Outcome
@@ -32,7 +32,7 @@ returns-in_default c =
 pub test_rows-tested-requires : goal.test_rows-tested-requires
 test_rows-tested-requires c =
     let passed : HeaderPassed c.args.m (length c.args.list.now) c.in-Good.cores c.in-Good.tasks = header-good _ _ _ _ (sym c.test_header-h.ensures ∙ c.in-Good.is) in
-    few-tasks _ _ passed.passed
+    few_tasks _ _ passed.passed
 
 pub returns-in_default-outcome : goal.returns-in_default-outcome
 returns-in_default-outcome c =
