@@ -4,7 +4,7 @@
 usage: python3 tools/spell.py [--dry]      at the top of the repository, once, after port.py
 
 A name of a definition or a lemma is one that a file of specs/ or a lemma file of proofs/ declares. Names that Rattle makes for the proof of a
-function (below proofs/F/), names of src/ and names of the libraries keep their spelling. It stops where two names of one file would fall together.
+function (below proofs/F/), names of src/ and names of the libraries keep their spelling. It prints where two names of one file fall together.
 """
 
 import glob

@@ -1,4 +1,4 @@
--- Bytes read as a state: a well_formed_lem state of their own length, or refused. The struct of a well_formed_lem state says that state:
+-- Bytes read as a state: a well-formed state of their own length, or refused. The struct of a well-formed state says that state:
 -- what is asked of it is asked of the state, and its bytes are the state's.
 use Prim.Native.Nat.{ℕ}
 use mathlib.Core.Path.{◌≡◌, refl, sym, ap, subst, ◌∙◌}
@@ -28,7 +28,7 @@ use Rattle.stored.proofs.Round.{decoded-size}
 use Rattle.tables.specs.Writes.{wrote_text}
 use Rattle.capi.specs.Answers.{Judgeable}
 
--- ---- the struct of a well_formed_lem state
+-- ---- the struct of a well-formed state
 
 module _ (st : State) (w : T (well_formed st)) where
   says : view (pack st) ≡ st

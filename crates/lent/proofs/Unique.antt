@@ -1,6 +1,5 @@
 -- Each public function's contract permits one outcome alone.
--- `take_rows` is walked by hand, and no relation of arguments and result is made of its contract: it is written out here, and `take-rows-says` shows that the
--- contract states this relation and nothing else.
+-- The relation of arguments and result is written out here, and `take-rows-says` shows that the contract states this relation and nothing else.
 use mathlib.Core.Path.{◌≡◌, refl}
 use mathlib.Core.List.{map}
 use seplogic.Ra.Ura.{Ura}

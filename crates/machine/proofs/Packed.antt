@@ -62,7 +62,7 @@ kept-sized {st} k =
       dropped = k.dropped_length;
     }
 
--- so that the struct of a well_formed_lem state passes the test of the form
+-- so that the struct of a well-formed state passes the test of the form
 pub struct_formed : (st : States.State) → T (well_formed st) → formed (pack st) ≡ true
 struct_formed st ok =
     let kept : Kept st = formed-kept st ok in

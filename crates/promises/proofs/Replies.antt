@@ -84,7 +84,7 @@ laid-holds out place txt e =
     let w : Laid out place txt _ = taken-laid out place txt e in
     subst (λ (l : List ℕ). Holds l place txt) (sym w.buffer) (lay-held out place txt w.room)
 
--- the totals of a well_formed_lem state are such a text
+-- the totals of a well-formed state are such a text
 pub totals-laid : (st : State) → T (well_formed st) → (out : List ℕ) (place : ℕ) → sized (length (totals_line st)) (write_totals st out place) ≡ laid out place (totals_line st)
 unfolding laid write_totals
 totals-laid st ok out place =

@@ -85,11 +85,11 @@ program_short input = reply_short (take input_max input) (read_file (take input_
 
 -- ---- a buffer that is long enough for any text
 
-module _ (input out : List ℕ) (room : text_max ≤ length out) {r : WriteAnswer} {out' : List ℕ} (Made-so : made r out' ≡ report_of input out 0) where
+module _ (input out : List ℕ) (room : text_max ≤ length out) {r : WriteAnswer} {out' : List ℕ} (made_so : made r out' ≡ report_of input out 0) where
   all-written : made r out' ≡ made (Written (length (program input))) (program input ++ drop (length (program input)) out)
   unfolding report_of
   all-written =
-      Made-so
+      made_so
       ∙ text-laid out 0 (program input) (length (program input)) refl (omega (arith, program_short input))
       ∙ ap (made (Written (length (program input)))) (lay-front out (program input))
 

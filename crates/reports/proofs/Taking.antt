@@ -1,4 +1,4 @@
--- A run and the totals of a well_formed_lem state are taken where there is time and room.
+-- A run and the totals of a well-formed state are taken where there is time and room.
 use Prim.Native.Nat.{ℕ, ◌+◌, ◌*◌, ◌≤◌}
 use mathlib.Core.Path.{◌≡◌, ap, ◌∙◌}
 use mathlib.Core.List.{List, [], ◌∷◌}

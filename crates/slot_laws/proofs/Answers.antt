@@ -1,4 +1,4 @@
--- What is asked of a well_formed_lem state: it passes the test of its form, and a run of it is taken exactly where there is time and room.
+-- What is asked of a well-formed state: it passes the test of its form, and a run of it is taken exactly where there is time and room.
 use Prim.Native.Nat.{ℕ, ◌+◌, ◌≤◌}
 use mathlib.Core.Path.{◌≡◌, sym, ◌∙◌}
 use mathlib.Core.Bool.{not}

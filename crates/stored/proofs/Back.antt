@@ -26,7 +26,7 @@ use Rattle.stored.proofs.Round.{stored_loads, loaded_stores}
 abbrev pub takes : State → StateAnswer
 takes s = record { outcome = Taken; state = s }
 
--- what is stored of a well_formed_lem struct is loaded as that struct
+-- what is stored of a well-formed struct is loaded as that struct
 pub struct_back : (s : State) → Full s → T (formed s) → state_answer (load (store (view s))) ≡ takes s
 unfolding state_answer formed
 struct_back s full good =

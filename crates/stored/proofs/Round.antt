@@ -32,7 +32,7 @@ use Rattle.stored.specs.Layout.{written, read_off, fixed_widths, task_widths, pl
 use Rattle.stored.proofs.Numbers.{Bytes}
 use Rattle.stored.proofs.Fields.{Fit, length-written, read-written, bytes_drop, written_read, length_records, drop_records, join_stretches}
 
--- ---- the numbers of a well_formed_lem state fit their fields
+-- ---- the numbers of a well-formed state fit their fields
 
 module _ {st : State} (kept : Kept st) (clock : st.clock ≤ clock_max) where
   fixed_fits : Fit fixed_widths (fixed_of st)

@@ -93,6 +93,6 @@ decoded bs =
       misses = at (fixed_in bs) 5;
     }
 
--- a byte string of another length than its own n asks for is no state, nor is one that does not stand for a well_formed_lem state
+-- a byte string of another length than its own n asks for is no state, nor is one that does not stand for a well-formed state
 unfoldable pub load : List ℕ → Answer State
 load bs = settle (test (not (eqb (length bs) (length_of (size_in bs)))) BadState ∷ state_test (decoded bs) ∷ []) (decoded bs)

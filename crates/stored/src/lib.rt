@@ -20,7 +20,7 @@
 //        18      8  its units done
 //        26      8  its units dropped
 //
-// A byte string of another length than its own n asks for, or one that does not stand for a well_formed_lem state, is refused with 9.
+// A byte string of another length than its own n asks for, or one that does not stand for a well-formed state, is refused with 9.
 // What is stored reads back as the same state, and what is read stores as the same bytes.
 #![tactic(auto)]
 
