@@ -54,13 +54,7 @@ bounds-t-k-2 c =
     let place : (1 ≤ c.args.i) × (c.args.i - 1 < tasks_max) = lead-place _ _ full forming named in
     place.1
 
-pub difference-requires : goal.difference-requires
-difference-requires c =
-    let full : Full c.args.s = state_full c.args.s _ c.well_formed.0 in
-    let forming : formed c.args.s ≡ true = sym c.is_formed.ensures ∙ c.if-not-is_formed.false in
-    let named : outside c.args.i 1 (tasks c.args.s) ≡ false = sym c.is_outside.ensures ∙ c.if-is_outside.false in
-    lead_parts _ _ full forming named c.wide.ensures c.times.ensures
-
+-- the parts are those of the definition
 pub returns : goal.returns
 returns c =
     let full : Full c.args.s = state_full c.args.s _ c.well_formed.0 in
@@ -68,3 +62,11 @@ returns c =
     let named : outside c.args.i 1 (tasks c.args.s) ≡ false = sym c.is_outside.ensures ∙ c.if-is_outside.false in
     lead_in _ _ full forming named c.wide.ensures c.times.ensures _
     (to_z-of_z {w = w64} (record { sfits = c.difference.type_inv }) ∙ c.difference.ensures)
+
+-- and so they are small
+pub difference-requires : goal.difference-requires
+difference-requires c =
+    let full : Full c.args.s = state_full c.args.s _ c.well_formed.0 in
+    let forming : formed c.args.s ≡ true = sym c.is_formed.ensures ∙ c.if-not-is_formed.false in
+    let named : outside c.args.i 1 (tasks c.args.s) ≡ false = sym c.is_outside.ensures ∙ c.if-is_outside.false in
+    lead_parts _ _ full forming named c.wide.ensures c.times.ensures

@@ -59,7 +59,7 @@ returns-then-count-s c =
     let text : List ℕ = c.args.s.now in
     let rows_are : c.read_rows-read.result ≡ rows_read (read_rows 2 count (drop 7 text)) = c.read_rows-read.ensures ∙ ap (λ (t : List ℕ). rows_read (read_rows 2 count t)) (tail_lent text 7 headed.long) in
     let told = ap (λ (r : RowsAnswer). r.outcome) (sym rows_are) ∙ c.in-Taken.is in
-    c.refused.ensures ∙ lines-trailing _ _ _ headed told c.if-count-s.true
+    c.refused.ensures ∙ lines-trailing _ _ _ headed told (omega arith)
 
 pub returns : goal.returns
 returns c =
@@ -68,4 +68,4 @@ returns c =
     let text : List ℕ = c.args.s.now in
     let rows_are : c.read_rows-read.result ≡ rows_read (read_rows 2 count (drop 7 text)) = c.read_rows-read.ensures ∙ ap (λ (t : List ℕ). rows_read (read_rows 2 count t)) (tail_lent text 7 headed.long) in
     let told = ap (λ (r : RowsAnswer). r.outcome) (sym rows_are) ∙ c.in-Taken.is in
-    rw rows_are (lines_end _ _ _ headed told c.if-count-s.false)
+    rw rows_are (lines_end _ _ _ headed told (omega arith))

@@ -5,6 +5,10 @@ use Rattle.tables.proofs.Pairs.{frame_parts}
 use native.Mathlib.Omega.{arith}
 use Rattle.tables.proofs.frame.write_pair.Goals as goal
 
+-- the line feed's place is within the lent part
+pub bounds-out-feed : goal.bounds-out-feed
+bounds-out-feed c = omega arith
+
 pub returns : goal.returns
 returns c =
     let a = c.args in

@@ -2,6 +2,7 @@
 use Prim.Native.Nat.{◌*◌, ◌<◌, zero-le}
 use mathlib.Core.Path.{◌≡◌, sym, ap, ap₂, ◌∙◌}
 use lib.Arith.{lt_of_le-ne}
+use native.Mathlib.Omega.{arith}
 use Rattle.rules.specs.Repeat.{lcm}
 use Rattle.rules.specs.Kinds.{repeat_of}
 use Rattle.tables.proofs.Bounds.{repeat_within, repeat_above}
@@ -21,7 +22,7 @@ returns-then-wide-m c =
     let product : c.wide.result * c.wide-2.result ≡ lcm c.args.h.0 c.args.t = let gcd = c.gcd-g in
     let positive : 0 < c.args.t = lt_of_le-ne zero-le (λ e. c.if-t-eq0.false (sym e)) in
     ap₂ ◌*◌ c.wide.ensures c.wide-2.ensures ∙ sym (lcm_gcd _ _ gcd.result c.requires.positive gcd.ensures positive) in
-    sym (repeat_above _ (rw (product, c.wide-3.ensures) at c.if-wide-m.true))
+    sym (repeat_above (lcm c.args.h.0 c.args.t) (omega (arith, product, c.wide-3.ensures)))
 
 pub returns : goal.returns
 returns c =

@@ -1,4 +1,5 @@
 -- `tables::row::test_row` meets its contract.
+use mathlib.Core.Path.{refl}
 use borrow.Author.Tests.{eq-eqb, ne_eqb, lt-ltb, le-ltb}
 use Rattle.rules.specs.Tables.{row_tests}
 use Rattle.tables.specs.Rows.{test_row}
@@ -18,4 +19,4 @@ returns-then-t-gt-MAX c = rw (ne_eqb _ _ c.if-c-eq0.false, le-ltb _ _ c.if-t-c.f
 
 pub returns : goal.returns
 unfolding test_row row_tests
-returns c = rw (ne_eqb _ _ c.if-c-eq0.false, le-ltb _ _ c.if-t-c.false, le-ltb _ _ c.if-t-gt-MAX.false)
+returns c = rw (ne_eqb _ _ c.if-c-eq0.false, le-ltb _ _ c.if-t-c.false, le-ltb _ _ c.if-t-gt-MAX.false) refl
