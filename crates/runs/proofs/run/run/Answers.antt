@@ -1,6 +1,7 @@
 -- `runs::run::run` meets its contract: the tests in their order, then the run.
 use mathlib.Core.Path.{sym, ◌∙◌}
 use mathlib.Core.List.{[]}
+use native.Mathlib.Omega.{arith}
 use lib.Dec.{T}
 use Rattle.laws.proofs.Tests.{to_T}
 use Rattle.machine.specs.Views.{formed}
@@ -31,7 +32,7 @@ pub returns-then-short : goal.returns-then-short
 returns-then-short c =
     let good : T (formed c.args.s) = to_T (sym c.is_formed.ensures ∙ c.if-not-is_formed.false) in
     let a = c.args in
-    refuse_room a.s a.count a.out.now a.at good (sym c.is_past-late.ensures ∙ c.if-late.false) (short_is a.s a.count a.out.now a.at good c.is_short-short.ensures c.length_of.ensures c.if-short.true) c.refused-then-short.ensures
+    refuse_room a.s a.count a.out.now a.at good (grind arith) (short_is a.s a.count a.out.now a.at good c.is_short-short.ensures c.length_of.ensures c.if-short.true) c.refused-then-short.ensures
 
 pub returns : goal.returns
 returns c =

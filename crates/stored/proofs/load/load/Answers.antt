@@ -1,5 +1,6 @@
 -- `stored::load::load` meets its contract: the tests in their order, each of which refuses as the definition does.
 use mathlib.Core.Path.{sym, ◌∙◌}
+use native.Mathlib.Omega.{arith}
 use Rattle.stored.proofs.Decoding.{too_short, wrong_length, too_many, held, ill_formed, well_formed_lem}
 use Rattle.stored.proofs.load.load.Goals as goal
 
@@ -8,7 +9,7 @@ returns-then-bytes-lt-FIXED c = c.refused.ensures ∙ too_short _ c.if-bytes-lt-
 
 pub returns-then-bytes-n : goal.returns-then-bytes-n
 returns-then-bytes-n c =
-    c.refused-then-bytes-n.ensures ∙ wrong_length c.args.bytes.now c.if-bytes-lt-FIXED.false c.if-bytes-n.true
+    c.refused-then-bytes-n.ensures ∙ wrong_length c.args.bytes.now c.if-bytes-lt-FIXED.false (omega arith)
 
 pub returns-then-n-gt64 : goal.returns-then-n-gt64
 returns-then-n-gt64 c =
