@@ -22,7 +22,7 @@ use Rattle.machine.specs.Tables.{Opened}
 use Rattle.machine.proofs.Starting.{opened}
 use Rattle.reports.specs.Texts.{report_length}
 use Rattle.reports.specs.Reports.{reply_to, Answered}
-use Rattle.reports.proofs.Texts.{length-report}
+use Rattle.reports.proofs.Whole.{length-report}
 
 -- ---- the line of a refusal
 

@@ -29,7 +29,8 @@ use Rattle.tables.specs.declared.write.WriteAnswer.{WriteAnswer}
 use Rattle.tables.specs.declared.write.WriteAnswer.TheVariants.{Written, Refused}
 use Rattle.reports.specs.Texts.{slots_of}
 use Rattle.reports.specs.Reports.{text_max, report_of, Printed, reply_to}
-use Rattle.reports.proofs.Texts.{length-report, text_bound}
+use Rattle.reports.proofs.Texts.{text_bound}
+use Rattle.reports.proofs.Whole.{length-report}
 use Rattle.tables.proofs.Written.{text_short, text-laid, text-written}
 use Rattle.reports.proofs.Replies.{length-refusal, reply-answer}
 

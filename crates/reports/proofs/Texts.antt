@@ -59,22 +59,11 @@ module _ (rows : List Row) {a : RepeatAnswer} (is : a ≡ repeat_of (repeat_leng
 
 -- ---- how long the text is
 
-length-run_lines : (tbl : Rules.Table) (count : ℕ) → length (run_lines tbl count) ≡ run_length tbl.m count
+pub length-run_lines : (tbl : Rules.Table) (count : ℕ) → length (run_lines tbl count) ≡ run_length tbl.m count
 unfolding fresh
 length-run_lines tbl count =
     length-append (slot_lines count (fresh tbl)) (totals_line (after count (fresh tbl)))
     ∙ omega (arith, length-slot_lines count (fresh tbl), length-totals_line (after count (fresh tbl)))
-
--- the head, and then the slots and the totals
-report_parts : (tbl : Rules.Table) → head tbl ++ run_lines tbl (slots_of tbl) ≡ report tbl
-unfolding report
-report_parts tbl = sym (append_assoc (head tbl) (slot_lines (slots_of tbl) (fresh tbl)) (totals_line (after (slots_of tbl) (fresh tbl))))
-
-pub length-report : (tbl : Rules.Table) → length (report tbl) ≡ report_length tbl
-length-report tbl =
-    ap length (sym (report_parts tbl))
-    ∙ length-append (head tbl) (run_lines tbl (slots_of tbl))
-    ∙ omega (arith, length-head tbl, length-run_lines tbl (slots_of tbl))
 
 -- the text of a table whose m, n and slots are in their bounds
 pub text_bound : (m n k : ℕ) → m ≤ cores_max → n ≤ tasks_max → k ≤ slots_max → 18 + 2 * n + (k * frame_length m + 51) ≤ text_max
@@ -140,7 +129,7 @@ module _ (tbl : Rules.Table) (a : T (accepts tbl)) (count : ℕ) (few : count �
       pub run-written : {w : WriteAnswer} {tail : List ℕ} {s' : State}
           → made w tail ≡ wrote 51 (mid_of at (length out' - at) out') (asked s' (λ x. write_totals x (mid_of at (length out' - at) out') 0))
           → s' ≡ pack (after count (fresh tbl))
-          → put_mid at (length out' - at) out' tail ≡ run_lines tbl count ++ drop (run_length tbl.m count) out
+          → put_mid at (length out' - at) out' tail ≡ slots ++ totals_line (after count (fresh tbl)) ++ drop (run_length tbl.m count) out
       run-written {w} {tail} e end_is =
           let mid : List ℕ = mid_of at (length out' - at) out' in
           let line : List ℕ = totals_line (after count (fresh tbl)) in
@@ -154,29 +143,3 @@ module _ (tbl : Rules.Table) (a : T (accepts tbl)) (count : ℕ) (few : count �
           ap (λ (x : Wrote). x.out) laid ∙ lay-front mid line ∙ ap (λ (k : ℕ). line ++ drop k mid) (length-totals_line (after count (fresh tbl)))
           in
           laid-front out (more out end_lines line 51 (length-totals_line (after count (fresh tbl))) (omega arith) at_front) (run_length tbl.m count) (omega arith)
-
--- ---- all of the text
-
--- the head stands at the front, and the slots and the totals go through the lent tail
-module _ (t : Table) (o : Opened t) (out : List ℕ) (room : report_length (view t) ≤ length out) {at count : ℕ} (begins : at ≡ head_length (view t)) (many : count ≡ slots_of (view t)) {out' : List ℕ} (headed : out' ≡ head (view t) ++ drop (head_length (view t)) out) where
-  abbrev tbl : Rules.Table
-  tbl = view t
-
-  all : at + run_length tbl.m count ≡ report_length tbl
-  all = rw (begins, many)
-
-  -- there is room for them
-  pub run_room : RunRoom t count (mid_of at (length out' - at) out')
-  run_room =
-      let long : length out' ≡ length out = line_kept out (head tbl) (length-head tbl) (omega arith) headed in
-      record { opened = o; few = omega arith; room = simp (length-take, length-drop) (omega (arith, all)) }
-
-  -- and they come right after it
-  pub report-written : {tail : List ℕ} → tail ≡ run_lines tbl count ++ drop (run_length tbl.m count) (mid_of at (length out' - at) out')
-      → put_mid at (length out' - at) out' tail ≡ report tbl ++ drop (report_length tbl) out
-  report-written e =
-      let one : Laid out (head tbl) out' at = first out (head tbl) at (length-head tbl ∙ sym begins) (headed ∙ ap (λ (k : ℕ). head tbl ++ drop k out) (sym begins)) in
-      let two = more out one (run_lines tbl count) (run_length tbl.m count) (length-run_lines tbl count) (omega (arith, all)) e in
-      laid-front out two (report_length tbl) all
-      ∙ ap (λ (k : ℕ). head tbl ++ run_lines tbl k ++ drop (report_length tbl) out) many
-      ∙ ap (λ (l : List ℕ). l ++ drop (report_length tbl) out) (report_parts tbl)

@@ -1,5 +1,5 @@
 -- `reports::table::write_report` meets its contract: the head, and right after it the slots and the totals.
-use Rattle.reports.proofs.Texts.{report-written}
+use Rattle.reports.proofs.Whole.{report-written}
 use Rattle.reports.proofs.table.write_report.Goals as goal
 
 pub returns : goal.returns
