@@ -1,7 +1,8 @@
 -- What "admitted" means for whoever calls the library from C, proved by the contracts of the calls alone.
 use Prim.Native.Nat.{ℕ, ◌*◌, ◌≤◌}
-use mathlib.Core.Path.{◌≡◌, sym, ap, subst, ◌∙◌}
+use mathlib.Core.Path.{◌≡◌, ap, subst, ◌∙◌}
 use mathlib.Core.List.{List}
+use native.Mathlib.Omega.{arith}
 use lib.Dec.{T}
 use lib.IntN.{pos, ◌-ℤ◌}
 use Rattle.laws.specs.Lists.{at}
@@ -72,7 +73,7 @@ admitted_means tbl start end b a runs =
     let o : Opening tbl start = a.opening in
     let t : T (accepts tbl) = opening-accepted o in
     let w : Came (Held tbl) tbl runs = calls-came o runs in
-    let u : T (admitted tbl) = says-admitted tbl (sym (ap (λ (l : List ℕ). at l 1) (verdict_tells o a.verdict).verdict) ∙ a.says) in
+    let u : T (admitted tbl) = says-admitted tbl (omega (arith, ap (λ (l : List ℕ). at l 1) (verdict_tells o a.verdict).verdict, a.says)) in
     record {
       accepted = t;
       admitted = u;

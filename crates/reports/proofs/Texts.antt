@@ -1,7 +1,7 @@
 -- The text of an accepted table: the slots and the totals after its head, and how long it is.
 use Prim.Native.Nat.{ℕ, ◌+◌, ◌-◌, ◌*◌, ◌≤◌, ◌<◌}
 use mathlib.Core.Path.{◌≡◌, refl, sym, ap, ◌∙◌}
-use mathlib.Core.List.{List, ◌++◌, append_assoc}
+use mathlib.Core.List.{List, ◌++◌}
 use native.Mathlib.Omega.{arith}
 use native.Mathlib.Nat.{mul-le-mul_right}
 use borrow.Rule.Slice.PartMut.{mid_of, put_mid}
@@ -17,7 +17,6 @@ use Rattle.rules.specs.States.{fresh}
 use Rattle.rules.specs.Forms.{well_formed}
 use Rattle.rules.specs.Runs.{after, slot_lines, totals_line}
 use Rattle.rules.specs.Answers.{lay, write_totals}
-use Rattle.rules.specs.Program.{report}
 use Rattle.rules.specs.declared.kinds.Repeat.{Repeat}
 use Rattle.rules.specs.declared.kinds.RepeatAnswer.{RepeatAnswer}
 use Rattle.rules.specs.declared.kinds.RepeatAnswer.TheVariants.{Within, Outside}
@@ -31,7 +30,7 @@ use Rattle.tables.specs.declared.table.Table.{Table}
 use Rattle.tables.specs.declared.write.WriteAnswer.{WriteAnswer}
 use Rattle.tables.specs.declared.write.WriteAnswer.TheVariants.{Written}
 use Rattle.tables.proofs.Bounds.{repeat-taken, repeat-refused}
-use Rattle.reading_laws.proofs.Laying.{Laid, first, more, laid-front, line_kept}
+use Rattle.reading_laws.proofs.Laying.{Laid, more, laid-front}
 use Rattle.machine.specs.Tables.{Opened}
 use Rattle.machine.specs.Views.{pack}
 use Rattle.machine.specs.Answers.{asked}
@@ -40,10 +39,9 @@ use Rattle.runs.specs.Slots.{frame_length}
 use Rattle.runs.specs.Answers.{RunEnd, run_end, run_answer}
 use Rattle.runs.specs.declared.run.RunAnswer.{RunAnswer}
 use Rattle.runs.specs.declared.run.RunOutcome.TheVariants.{Taken}
-use Rattle.reports.specs.Heads.{head, head_length}
-use Rattle.reports.specs.Texts.{slots_of, run_lines, run_length, report_length, RunRoom}
+use Rattle.reports.specs.Heads.{head_length}
+use Rattle.reports.specs.Texts.{slots_of, run_lines, run_length, report_length}
 use Rattle.reports.specs.Reports.{text_max}
-use Rattle.reports.proofs.Heads.{length-head}
 use Rattle.reports.proofs.Taking.{run-taken, totals-taken}
 
 -- ---- how many slots are run
