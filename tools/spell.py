@@ -7,13 +7,11 @@ A name of a definition or a lemma is one that a file of specs/ or a lemma file o
 function (below proofs/F/), names of src/ and names of the libraries keep their spelling. It prints where two names of one file fall together.
 """
 
-import glob
-import os
 import re
 import sys
 
-# what may stand in a name of antt, without the dot that joins a path
-WORD = re.compile(r"[^\s.(){}\[\];,:\"`⌜⌝«»λ]+")
+from names import antt_files, other_files, read, respell
+
 HUMP = re.compile(r"(?<=[a-z0-9])(?=[A-Z])")
 DECLARED = re.compile(r"^\s*(?:(?:unfoldable|abbrev|pub|opaque|record|data|let)\s+)*([A-Za-z][^\s:(){}.,;]*)\s*:(?!=)")
 # a name of the library that a lemma is named after
@@ -21,15 +19,6 @@ LIBRARY = set("append cond drop filter foldl get_or length map mod replicate rev
 # definitions whose names are plain words too: in a lemma's name they hang on by an underscore
 PLAIN = set("given is more once short then with write".split())
 OLDER = {"getD": "get_or"}
-
-
-def texts(pattern):
-    return sorted(p for p in glob.glob(pattern, recursive=True) if "/out/" not in p)
-
-
-def read(path):
-    with open(path, encoding="utf-8", newline="") as f:
-        return f.read()
 
 
 def is_lemma_file(path):
@@ -70,7 +59,7 @@ def spelled(name, names):
 
 def main():
     dry = "--dry" in sys.argv[1:]
-    files = texts("crates/*/specs/**/*.antt") + texts("crates/*/proofs/**/*.antt")
+    files = antt_files()
     own = [p for p in files if is_lemma_file(p)]
     names = declared(own)
     definitions = {plain(n) for n in declared([p for p in files if "/specs/" in p]) if "-" not in n} - PLAIN | LIBRARY
@@ -86,36 +75,22 @@ def main():
     outside = dict(turned)
     turned |= {n: n + "_lem" for n in lemmas}
 
-    def new_word(word, only_declared):
-        if word in (outside if only_declared else turned):
+    def new_name(word, in_antt, made):
+        # where a Rattle name of the same spelling stands in a file of a proof, it is the goal's
+        if word in made:
+            return word
+        if word in (turned if in_antt else outside):
             return turned[word]
-        if not only_declared and "-" not in word and word[0].islower() and HUMP.search(word):
+        if in_antt and "-" not in word and word[0].islower() and HUMP.search(word):
             return plain(word)
         return word
 
     clashes = 0
-    everywhere = files + texts("crates/*/src/**/*.rt") + texts("crates/*/must-fail/*.edit") + texts("docs/*.md") + ["README.md"]
-    for p in everywhere:
-        t = read(p)
-        only = not p.endswith(".antt")
-        # where a Rattle name of the same spelling stands in a file of a proof, it is the goal's
-        made = set(declared([p])) if p.endswith(".antt") and not is_lemma_file(p) else set()
-        seen = {}
-
-        def turn(m):
-            w = m.group(0)
-            n = w if w in made else new_word(w, only)
-            seen.setdefault(n, set()).add(w)
-            return n
-
-        new = WORD.sub(turn, t)
-        for n, olds in seen.items():
-            if len(olds) > 1:
-                clashes += 1
-                print(f"clash: {p}: {' '.join(sorted(olds))} -> {n}")
-        if new != t and not dry:
-            with open(p, "w", encoding="utf-8", newline="") as f:
-                f.write(new)
+    for p in files:
+        made = set() if is_lemma_file(p) else declared([p])
+        clashes += respell(p, lambda word, made=made: new_name(word, True, made), dry)
+    for p in other_files():
+        clashes += respell(p, lambda word: new_name(word, False, set()), dry)
     by_new = {}
     for a, b in turned.items():
         by_new.setdefault(b, []).append(a)

@@ -5,22 +5,13 @@ and no capital stands.
 usage: python3 tools/spell_fields.py [--dry]      at the top of the repository, after tools/spell.py
 """
 
-import glob
 import re
 import sys
 
-WORD = re.compile(r"[^\s.(){}\[\];,:\"`⌜⌝«»λ]+")
+from names import antt_files, other_files, read, respell
+
 FIELD = re.compile(r"^\s+(?:pub )?([a-z][\w']*(?:-[\w']+)+)\s*:(?!=)")
 RENAMED = re.compile(r"\bas ([a-z]+(?:[A-Z][a-z0-9]*)+)\b")
-
-
-def texts(pattern):
-    return sorted(p for p in glob.glob(pattern, recursive=True) if "/out/" not in p)
-
-
-def read(path):
-    with open(path, encoding="utf-8", newline="") as f:
-        return f.read()
 
 
 def fields(text):
@@ -38,21 +29,15 @@ def fields(text):
 
 
 def main():
-    files = texts("crates/*/specs/**/*.antt") + texts("crates/*/proofs/**/*.antt")
+    dry = "--dry" in sys.argv[1:]
+    files = antt_files()
     turned = {n: n.replace("-", "_") for p in files for n in fields(read(p))}
-    for p in files + texts("crates/*/src/**/*.rt") + texts("crates/*/must-fail/*.edit") + texts("docs/*.md") + ["README.md"]:
-        t = read(p)
+    for p in files + other_files():
         here = dict(turned)
         if p.endswith(".rt"):
-            here |= {n: re.sub(r"(?=[A-Z])", "_", n).lower() for line in t.split("\n") if line.startswith("ghost use") for n in RENAMED.findall(line)}
-        seen = {}
-        new = WORD.sub(lambda m: seen.setdefault(here.get(m.group(0), m.group(0)), set()).add(m.group(0)) or here.get(m.group(0), m.group(0)), t)
-        for n, olds in seen.items():
-            if len(olds) > 1:
-                print(f"clash: {p}: {' '.join(sorted(olds))} -> {n}")
-        if new != t and "--dry" not in sys.argv[1:]:
-            with open(p, "w", encoding="utf-8", newline="") as f:
-                f.write(new)
+            imports = [line for line in read(p).split("\n") if line.startswith("ghost use")]
+            here |= {n: re.sub(r"(?=[A-Z])", "_", n).lower() for line in imports for n in RENAMED.findall(line)}
+        respell(p, lambda name, here=here: here.get(name, name), dry)
     print(" ".join(f"{a}={b}" for a, b in sorted(turned.items())))
 
 
