@@ -76,20 +76,3 @@ module _ (ranks left before : List ℕ) where
               rw (take-set-le k chosen k i (le_refl k))
               (ap (λ (l : List ℕ). take k chosen ++ take (length before - k) l) (sym (split ∙ rw e)) ∙ g.whole);
         })
-
-  module _ {chosen : List ℕ} {k r : ℕ} (g : Going ranks left before chosen k r) where
-    -- no rank is left, or no place
-    pub ended : take (length before - k) (filter (waits left) (drop r ranks)) ≡ [] → Chose ranks left before chosen k
-    ended e =
-        let all : take k chosen ≡ choose (length before) ranks left = sym (append-nil (take k chosen)) ∙ ap (λ (l : List ℕ). take k chosen ++ l) (sym e) ∙ g.whole in
-        record {
-          places = g.places;
-          number = written-number chosen k (omega (arith, g.places, g.few)) all;
-          front = all;
-        }
-
-    pub no_rank : r ≡ length ranks → Chose ranks left before chosen k
-    no_rank e = ended (rw (e, drop-length) (take-nil (length before - k)))
-
-    pub no_place : k ≡ length before → Chose ranks left before chosen k
-    no_place e = ended (rw (e, sub_self))

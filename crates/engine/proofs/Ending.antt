@@ -47,21 +47,6 @@ module _ (c t phase left dropped : List ℕ) where
     pub dropped_size : length dropped' ≡ length left
 
   module _ (e : Ending c t phase left dropped) where
-    -- before the first task
-    pub start : Going phase left dropped 0 0
-    start =
-        record {
-          within = zero-le;
-          phases = refl;
-          lefts = refl;
-          drops = refl;
-          number = refl;
-          small = zero-le;
-          phase_size = e.phase_size;
-          left_size = refl;
-          dropped_size = e.dropped_size;
-        }
-
     module _ {phase' left' dropped' : List ℕ} {misses i : ℕ} (g : Going phase' left' dropped' misses i) where
       module _ (more : i < length left) where
         -- what the loop reads of the next task is as it was
@@ -73,16 +58,6 @@ module _ (c t phase left dropped : List ℕ) where
 
         dropped-here : get_or dropped' i 0 ≡ get_or dropped i 0
         dropped-here = ap (λ (l : List ℕ). get_or l i 0) g.drops ∙ filled-here dropped_of dropped i (omega (arith, e.dropped_size))
-
-        -- the next task's phase lies below its period, and its units and its miss fit
-        pub phase-low : get_or phase' i 0 < get_or t i 0
-        phase-low = rw phase-here (e.phases i more)
-
-        pub drops_fit : (p : ℕ) {d : ℕ} → d ≡ cond (eqb p 0) (get_or left' i 0) 0 → get_or dropped' i 0 + d < 2 ^ 32
-        drops_fit p ed = omega (arith, e.fits i more, dropped-here, left_here, cond-le (eqb p 0) (get_or left' i 0))
-
-        pub misses_fit : (d : ℕ) {v : ℕ} → v ≡ cond (ltb 0 d) 1 0 → misses + v < 2 ^ 32
-        misses_fit d ev = omega (arith, e.few, cond-le (ltb 0 d) 1)
 
         -- one task's turn, with the values that the loop computes for it
         pub turn : {p u d v : ℕ} → p ≡ next_phase (get_or phase' i 0) (get_or t i 0) → u ≡ cond (eqb p 0) (get_or c i 0) (get_or left' i 0)
@@ -105,14 +80,3 @@ module _ (c t phase left dropped : List ℕ) where
               left_size = length-set left' i u ∙ g.left_size;
               dropped_size = length-set dropped' i (get_or dropped' i 0 + d) ∙ g.dropped_size;
             }
-
-      -- after the last task
-      pub ended : length left ≤ i → Ended c t phase left dropped phase' left' dropped' misses
-      ended h =
-          let at_end : i ≡ length left = omega (arith, g.within) in
-          record {
-            phases = g.phases ∙ filled_end phase_of phase i (at_end ∙ sym e.phase_size) ∙ rw e.phase_size;
-            lefts = g.lefts ∙ filled_end left_of left i at_end;
-            drops = g.drops ∙ filled_end dropped_of dropped i (at_end ∙ sym e.dropped_size) ∙ rw e.dropped_size;
-            number = g.number ∙ rw at_end;
-          }

@@ -32,10 +32,6 @@ named_part q {n} {l} h =
         subst P (sym (at_pred l (position x l) s.low) ∙ s.here) (all (position x l - 1) (omega (arith, s.low, s.high)))
 
 module _ {chosen last cores : List ℕ} (p : Placing chosen last cores) (idle : Idle cores) where
-  -- the first pass is handed a place for each chosen task
-  pub keeping : (spare : List ℕ) → length cores ≤ length spare → Keeping chosen last cores (take (length cores) spare)
-  keeping spare enough = record { placing = p; idle = idle; room = omega (arith, p.few, length-take (length cores) spare) }
-
   module _ {lent kept others : List ℕ} {n : ℕ} (k : Kept chosen last cores lent kept others n) where
     kept_is : kept ≡ keep_cores last chosen (replicate (length cores) 0)
     kept_is = k.kept ∙ ap (keep_cores last chosen) idle
@@ -63,6 +59,3 @@ module _ {chosen last idle lent kept others : List ℕ} {n : ℕ} (k : Kept chos
   -- the others stand first in what the first pass wrote, whatever follows it
   pub handed : take n (others ++ rest) ≡ unplaced kept chosen
   handed = front-taken (unplaced kept chosen) (drop n lent) k.number k.entries rest
-
-  pub handed_fit : n ≤ length (others ++ rest)
-  handed_fit = front_fits (unplaced kept chosen) (drop n lent) k.number k.entries rest

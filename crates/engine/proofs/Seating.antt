@@ -41,18 +41,6 @@ one_more_passed k v l m e none busy =
     ∙ omega (arith, count-append (eqb 0) (take k l) (v ∷ []), hit_other busy)
 
 module _ {others last before : List ℕ} (f : Filling others last before) where
-  pub start : Going others last before last before 0 0 0
-  start =
-      record {
-        size = refl;
-        passed = refl;
-        room = omega (arith, f.room);
-        whole = refl;
-        once = f.once;
-        seated = f.kept;
-        few = zero-le;
-      }
-
   module _ {last' cores : List ℕ} {moves j k : ℕ} (g : Going others last before last' cores moves j k) where
     -- a free core is still to come, as long as a task is
     pub more_cores : j < length others → k < length cores
@@ -63,10 +51,6 @@ module _ {others last before : List ℕ} (f : Filling others last before) where
         absurd (omega (arith, g.room)))
         (decide (ltb k (length cores)))
 
-    -- cores are few
-    pub core_small : j < length others → k < 32
-    core_small more = omega (arith, more_cores more, g.size, f.small)
-
     -- the next core is free: the next task takes it
     module _ (more : j < length others) where
       abbrev task : ℕ
@@ -75,17 +59,11 @@ module _ {others last before : List ℕ} (f : Filling others last before) where
       pub low : 1 ≤ task
       low = f.named.from j more
 
-      pub high : task ≤ length last'
-      high = omega (arith, f.named.to j more, seated-size g.seated)
-
       next : (i : ℕ) → count (eqb i) (drop j others) ≡ cond (eqb i task) 1 0 + count (eqb i) (drop (suc j) others)
       next i = ap (count (eqb i)) (drop-cons others j 0 more) ∙ omega arith
 
       none : count (eqb task) cores ≡ 0
       none = omega (arith, g.once task low, next task, hit_same {x = task} refl)
-
-      pub moves_fit : {last'' : List ℕ} {v : ℕ} → Remembered task (k + 1) last' last'' v → moves + v ≤ 33
-      moves_fit h = omega (arith, h.number, hit_le (moves_to (k + 1) (at last' task)), g.few, core_small more)
 
       pub took : get_or cores k 0 ≡ 0 → {last'' : List ℕ} {v : ℕ} → Remembered task (k + 1) last' last'' v
           → Going others last before last'' (set cores k task) (moves + v) (j + 1) (k + 1)

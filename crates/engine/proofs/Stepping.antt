@@ -123,10 +123,6 @@ module _ {m : ℕ} {c t ranks phase left last done dropped : List ℕ} (r : Read
     count_is : k ≡ length chosen
     count_is = chose.number ∙ ap length chosen_is
 
-    -- the chosen tasks stand first in what was lent
-    pub picked_fit : k ≤ length (picked ++ rest)
-    picked_fit = omega (arith, count_is, choice.few, chose.places, room, length-append picked rest)
-
     picked_is : take k (picked ++ rest) ≡ chosen
     picked_is = take-append-le k picked rest (omega (arith, count_is, choice.few, chose.places, room)) ∙ chose.front ∙ chosen_is
 

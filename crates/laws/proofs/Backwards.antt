@@ -17,10 +17,6 @@ pub record Writing (piece : ℕ → ℕ → List ℕ) (out₀ : List ℕ) (width
   pub kept : length out ≡ length out₀
   pub same : piece i v ++ drop i out ≡ piece width v₀ ++ drop width out₀
 
--- nothing is written yet
-pub writing_starts : {piece : ℕ → ℕ → List ℕ} {out₀ : List ℕ} {width v₀ : ℕ} → width ≤ length out₀ → Writing piece out₀ width v₀ out₀ v₀ width
-writing_starts h = record { room = h; kept = refl; same = refl }
-
 module _ {piece : ℕ → ℕ → List ℕ} {base : ℕ} {sign : ℕ → ℕ} (places : InPlaces piece base sign)
     {out₀ : List ℕ} {width v₀ : ℕ} {out : List ℕ} {v i : ℕ} (w : Writing piece out₀ width v₀ out v i) where
   -- one more place is written, the last one first

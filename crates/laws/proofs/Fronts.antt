@@ -67,11 +67,6 @@ module _ {A B : Type 0} (into : B → A) (d : A) (size : ℕ) where
     pub same : now ≡ front into d size (map f (numbers i))
 
   module _ (f : ℕ → B) (n : ℕ) where
-    pub fronting_starts : {now : List A} → now ≡ replicate size d → n ≤ size → Fronting f n now 0
-    fronting_starts e h =
-        let all_of : size - 0 ≡ size = omega arith in
-        record { few = h; within = zero-le; same = rw all_of e }
-
     module _ {now : List A} {i : ℕ} (g : Fronting f n now i) where
       pub fronting_goes_on : {a : A} → i < n → a ≡ into (f (i + 1)) → Fronting f n (set now i a) (i + 1)
       fronting_goes_on less e =

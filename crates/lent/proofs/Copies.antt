@@ -34,9 +34,6 @@ pub record Copied (ys : List Row) (pairs : List (List ℕ)) (i : ℕ) : Type 0 w
   pub same : take i pairs ≡ take i (map pair_of ys)
 
 module _ (ys : List Row) where
-  pub copied_starts : Copied ys no_pairs 0
-  copied_starts = record { within = zero-le; long = length-replicate {A = List ℕ} places (0 ∷ 0 ∷ []); same = refl }
-
   pub copied_more : (pairs : List (List ℕ)) (i : ℕ) → Copied ys pairs i → i < fitting ys → Copied ys (set pairs i (pair_of (get_or ys i zero_row))) (i + 1)
   copied_more pairs i r l =
       let x = pair_of (get_or ys i zero_row) in

@@ -50,16 +50,6 @@ pub record Fit (s : State) (i : ℕ) : Type 0 where
   pub whole : passing (task_formed (view s)) (tasks s + 1) (i + 1) ≡ all (task_formed (view s)) (numbers (tasks s))
 
 module _ (s : State) where
-  pub start : Full s → Ready s → Fit s 0
-  start full ready =
-      let all_of : tasks s + 1 - (0 + 1) ≡ tasks s = omega arith in
-      record {
-        full = full;
-        ready = ready;
-        within = zero-le;
-        whole = ap (λ (k : ℕ). all (task_formed (view s)) (from 1 k)) all_of;
-      }
-
   module _ {i : ℕ} (g : Fit s i) where
     module _ (more : i < tasks s) where
       pub turn : fits_at s i ≡ true → Fit s (i + 1)
@@ -75,6 +65,3 @@ module _ (s : State) where
       pub stop : fits_at s i ≡ false → false ≡ all (task_formed (view s)) (numbers (tasks s))
       stop e =
           sym (passing_stop (task_formed (view s)) (tasks s + 1) (i + 1) (omega arith) (task-at s g.full g.ready.few i more ∙ e)) ∙ g.whole
-
-    pub ended : tasks s ≤ i → true ≡ all (task_formed (view s)) (numbers (tasks s))
-    ended h = sym (passing_end (task_formed (view s)) (tasks s + 1) (i + 1) (omega arith)) ∙ g.whole

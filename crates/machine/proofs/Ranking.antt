@@ -25,9 +25,6 @@ pub record Alike (n : ℕ) (a b : List TaskNumber) (i : ℕ) : Type 0 where
   pub whole : matching (shown n a) (shown n b) i ≡ same (shown n a) (shown n b)
 
 module _ (n : ℕ) (a b : List TaskNumber) where
-  pub start : n ≤ tasks_max → length a ≡ tasks_max → length b ≡ tasks_max → Alike n a b 0
-  start h p q = record { few = h; within = zero-le; long_a = p; long_b = q; whole = refl }
-
   module _ {i : ℕ} (g : Alike n a b i) where
     length_a : length (shown n a) ≡ n
     length_a = length-viewed (λ x. x.0) n a (omega arith)

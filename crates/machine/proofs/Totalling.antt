@@ -57,9 +57,6 @@ pub record Summed (s : State) (units i : ℕ) : Type 0 where
   pub whole : units + sum (drop i (view s).dropped) ≡ sum (view s).dropped
 
 module _ (s : State) where
-  pub start : Full s → formed s ≡ true → Summed s 0 0
-  start full ok = record { full = full; ok = ok; within = zero-le; whole = omega arith }
-
   module _ {sofar i : ℕ} (g : Summed s sofar i) where
     module _ (more : i < tasks s) where
       pub place : i < tasks_max
@@ -92,9 +89,6 @@ pub totals_parts : (moves misses dropped : ℕ)
     → frame totals (moves ∷ misses ∷ dropped ∷ []) ≡ field 2 0x14 ++ field 16 moves ++ field 16 misses ++ field 16 dropped ++ (line_feed ∷ [])
 unfolding frame fields
 totals_parts moves misses dropped = simp (append_assoc, append-nil)
-
-pub length-totals : (moves misses dropped : ℕ) → length (frame totals (moves ∷ misses ∷ dropped ∷ [])) ≡ 51
-length-totals moves misses dropped = length-frame totals (moves ∷ misses ∷ dropped ∷ []) refl
 
 -- ---- the answer
 

@@ -104,8 +104,3 @@ module _ (input out : List ℕ) (room : text_max ≤ length out) {r : WriteAnswe
   -- and gets all of it
   pub printed : {n : ℕ} → r ≡ Written n → Printed input out n out'
   printed e = record { count = cc answer_is; text = ap (λ (w : Wrote). w.out) all-written }
-
--- what was printed lies within the buffer
-pub printed_inside : {input out : List ℕ} {n : ℕ} {out' : List ℕ} → Printed input out n out' → n ≤ length out'
-printed_inside {input} {out} p =
-    omega (arith, p.count, ap length p.text, length-append (program input) (drop (length (program input)) out))

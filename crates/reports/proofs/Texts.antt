@@ -84,9 +84,6 @@ module _ (t : Table) (o : Opened t) where
       → before + (slots + 51) ≡ report_length (view t)
   size_is {before} {count} {slots} eb ec es = rw (eb, slots_end count es, ec)
 
-  pub size_small : report_length (view t) ≤ text_max
-  size_small = text_bound (view t).m (size (view t)) (slots_of (view t)) o.sound.bounds.cores.most o.sound.bounds.tasks.most (omega arith)
-
 -- ---- the slots and the totals
 
 module _ (tbl : Rules.Table) (a : T (accepts tbl)) (count : ℕ) (few : count ≤ slots_max) (out : List ℕ) (room : run_length tbl.m count ≤ length out) where

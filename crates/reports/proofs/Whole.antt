@@ -39,12 +39,6 @@ module _ (t : Table) (o : Opened t) (out : List ℕ) (room : report_length (view
   all : at + run_length tbl.m count ≡ report_length tbl
   all = rw (begins, many)
 
-  -- there is room for them
-  pub run_room : RunRoom t count (mid_of at (length out' - at) out')
-  run_room =
-      let long : length out' ≡ length out = line_kept out (head tbl) (length-head tbl) (omega arith) headed in
-      record { opened = o; few = omega arith; room = simp (length-take, length-drop) (omega (arith, all)) }
-
   -- and they come right after it
   pub report-written : {tail : List ℕ} → tail ≡ run_lines tbl count ++ drop (run_length tbl.m count) (mid_of at (length out' - at) out')
       → put_mid at (length out' - at) out' tail ≡ report tbl ++ drop (report_length tbl) out

@@ -85,14 +85,6 @@ module _ (s : State) (count : ℕ) (out : List ℕ) (place : ℕ) where
         pub room_is : place + count * frame_length s.table.m.0 ≤ length out
         room_is = ltb-false _ _ room
 
-        pub opened : Open s count (take (length out - place) (drop place out))
-        opened =
-            record {
-              good = good;
-              in_time = ltb-false clock_max (s.clock.0 + count) soon;
-              room = simp (length-take, length-drop) (omega (arith, room_is));
-            }
-
         pub take-run : {r : State} {tail : List ℕ} → RunFormed s count (take (length out - place) (drop place out)) r tail
             → run_end (record { outcome = Taken; state = r }) (put_mid place (length out - place) out tail) ≡ run_answer s count out place
         take-run {r} {tail} w =

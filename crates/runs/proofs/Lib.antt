@@ -1,6 +1,5 @@
 pub mod Answering
 pub mod Parting
-pub mod Room
 pub mod Running
 pub mod SlotLoop
 pub mod Unique

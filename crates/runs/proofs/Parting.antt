@@ -198,18 +198,6 @@ pub record Joining (n : ℕ) (left last done dropped : List ℕ) (lefts : List U
   pub dropped_is : Copy units dropped no_units drops i
 
 module _ {n : ℕ} {left last done dropped : List ℕ} where
-  pub join_start : n ≤ tasks_max → length left ≡ tasks_max → length last ≡ tasks_max → length done ≡ tasks_max → length dropped ≡ tasks_max
-      → Joining n left last done dropped no_units no_cores no_units no_units 0
-  join_start few el ea ed ep =
-      record {
-        few = few;
-        within = zero-le;
-        left_is = copy_start units el refl;
-        last_is = copy_start core_number ea refl;
-        done_is = copy_start units ed refl;
-        dropped_is = copy_start units ep refl;
-      }
-
   module _ {lefts : List Units} {lasts : List CoreNumber} {dones drops : List Units} {i : ℕ} (g : Joining n left last done dropped lefts lasts dones drops i) where
     pub join_turn : i < n → {l d x : ℕ} → l ≡ get_or left i 0 → d ≡ get_or done i 0 → x ≡ get_or dropped i 0
         → Joining n left last done dropped (set lefts i (units l)) (set lasts i (core_number (get_or last i 0))) (set dones i (units d)) (set drops i (units x)) (i + 1)

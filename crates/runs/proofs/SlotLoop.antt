@@ -134,10 +134,6 @@ module _ {st : State} {count : ℕ} {c t phase₀ out₀ : List ℕ} (r : Runnab
     lefts_now : left ≡ release (table_of m c t) (st.clock + k) (after k st).left
     lefts_now = g.lefts ∙ ap (λ (x : Table). release x (st.clock + k) (after k st).left) (sym table_same)
 
-    -- the next frame has its room
-    pub place-room : k < count → place + frame_length m ≤ length out
-    place-room more = omega (arith, piece_fits g.frames more, g.frames.kept)
-
     -- what the next slot asks
     pub slot-ready : {w : ℕ} → w ≡ m → Ready w c t st.ranks phase left last done dropped
     slot-ready wide =
@@ -220,10 +216,6 @@ module _ {st : State} {count : ℕ} {c t phase₀ out₀ : List ℕ} (r : Runnab
       pub misses_fit : misses + missed < 2 ^ 64
       misses_fit = omega (arith, r.in_time, kept_next.misses_few)
 
-      -- what the frame asks
-      pub frame-room : (length cores' ≤ cores_max) × (frame_length (length cores') ≤ length (take (length out - place) (drop place out)))
-      frame-room = (omega (arith, few_cores, cores_wide), simp (length-take, length-drop) (omega (arith, place-room more, cores_wide)))
-
       pub turn : {tail : List ℕ} {length-of : ℕ} → length-of ≡ frame_length m
           → tail ≡ slot_line (shown_as (st.clock + k) cores' moved missed) ++ drop (frame_length (length cores')) (take (length out - place) (drop place out))
           → Run st count c t out₀ phase' left' last' done' dropped' (put_mid place (length out - place) out tail) (moves + moved) (misses + missed) (place + length-of) (k + 1)
@@ -242,19 +234,6 @@ module _ {st : State} {count : ℕ} {c t phase₀ out₀ : List ℕ} (r : Runnab
     pub left_size : length left ≡ length st.left
     left_size = ap length g.lefts ∙ release-size st.table (st.clock + k) (after k st).left ∙ sym kept₀.left_length
 
-    pub last_size : length last ≡ length st.last
-    last_size = kept.last_length ∙ ap size table_same ∙ sym kept₀.last_length
-
-    pub done_size : length done ≡ length st.done
-    done_size = kept.done_length ∙ ap size table_same ∙ sym kept₀.done_length
-
-    pub dropped_size : length dropped ≡ length st.dropped
-    dropped_size = kept.dropped_length ∙ ap size table_same ∙ sym kept₀.dropped_length
-
-    pub phase_size : length phase ≡ length phase₀
-    unfolding phases_in
-    phase_size = rw (g.phases, r.phases, length-each (size st.table) _, length-each (size st.table) _)
-
     -- what a release of no units after the last slot asks
     pub last_lengths : (n : ℕ) → n ≡ length st.left → n ≤ 64 → (length phase ≡ length left) × (length (take n zeros) ≡ length left)
     unfolding phases_in
@@ -266,10 +245,6 @@ module _ {st : State} {count : ℕ} {c t phase₀ out₀ : List ℕ} (r : Runnab
     -- a release of no units after the last slot gives the state's own left work
     left_back : (n : ℕ) {left'' : List ℕ} → left'' ≡ released_on (take n zeros) phase left → left'' ≡ (after k st).left
     left_back n e = e ∙ rw (phases_now, lefts_now) (withheld_on kept (take n zeros) (none_left n))
-
-    pub left_end : (n : ℕ) {left'' : List ℕ} → left'' ≡ released_on (take n zeros) phase left → length left'' ≡ length st.left
-    unfolding released_on
-    left_end n e = ap length e ∙ length-each (length left) _ ∙ left_size
 
     -- the last slot was run
     pub ended : count ≤ k → (n : ℕ) {left'' : List ℕ} → left'' ≡ released_on (take n zeros) phase left

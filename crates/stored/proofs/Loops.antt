@@ -46,11 +46,6 @@ module _ (s : List ℕ) (from width : ℕ) where
     pub reading_fits : v * 256 + get_or s (from + i) 0 < 2 ^ 64
     reading_fits = lt_of_lt_of_le below_more (pow-le-pow_right {n = 256} (lit< tt) {j = 8} (omega arith))
 
-  pub reading_ends : (v i : ℕ) → Reading s from width v i → width ≤ i → Read s from width v
-  reading_ends v i r h =
-      let e : i ≡ width = omega arith in
-      record { value = r.same ∙ ap (number_at s from) e; fits = rw e at r.below }
-
 -- ---- a number written from the back
 
 pub byte_places : InPlaces bytes_of 256 (λ b. b)

@@ -56,10 +56,6 @@ module _ (h t g : ℕ) (low : 0 < h) (gcd : Gcd h t g) where
   pub lcm_gcd : 0 < t → lcm h t ≡ h * (t / g)
   lcm_gcd tp = lcm_by_gcd h t tp g low gcd_pos gcd.left gcd.right gcd.greatest
 
--- it fits 64 bits before it is tested
-pub product_fits : (h x : ℕ) → h ≤ repeat_max → x < 2 ^ 32 → h * x < 2 ^ 64
-product_fits h x high small = lt_of_le_of_lt (mul-le-mul high (le_of_lt small)) (lit< tt)
-
 -- ---- row by row
 
 -- going on from h

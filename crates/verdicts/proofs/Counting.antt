@@ -21,10 +21,6 @@ module _ (m : ℕ) (cs ts : List ℕ) where
     pub within : i ≤ length cs
     pub number : n ≡ count (heavy (table_of m cs ts)) (numbers i)
 
-  -- before the first task
-  pub start : Counting 0 0
-  start = record { within = zero-le; number = refl }
-
   module _ (columns : Columns m cs ts) {n i : ℕ} (g : Counting n i) where
     -- they are few enough for their type
     pub few : n ≤ tasks_max

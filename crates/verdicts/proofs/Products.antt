@@ -5,10 +5,6 @@ use native.Mathlib.Omega.{arith}
 use Rattle.rules.specs.Verdicts.{fraction}
 use Rattle.verdicts.specs.Limit.{Weighed}
 
--- two numbers of 32 bits have a product of 64
-pub product_fits : (a b : ℕ) → a < 2 ^ 32 → b < 2 ^ 32 → a * b < 2 ^ 64
-product_fits a b ha hb = omega (arith, mul-le-mul (le-pred_of_lt ha) (le-pred_of_lt hb))
-
 -- both sides of the test for admission are small
 module _ (m h s : ℕ) (weighed : Weighed m h s) where
   pub load_fits : (fraction m).den * s < 2 ^ 64

@@ -18,10 +18,6 @@ module _ (rows : List Row) where
     pub executions : cs ≡ copied (λ r. r.c) rows zeros i
     pub periods : ts ≡ copied (λ r. r.t) rows zeros i
 
-  -- before the first row
-  pub start : Going zeros zeros 0
-  start = record { within = zero-le; executions = refl; periods = refl }
-
   module _ (long : length rows ≡ 64) {cs ts : List ℕ} {i : ℕ} (g : Going cs ts i) where
     -- one row
     pub turn : i < 64 → Going (set cs i (get_or rows i zero_row).c) (set ts i (get_or rows i zero_row).t) (i + 1)
@@ -31,10 +27,3 @@ module _ (rows : List Row) where
           executions = copied_turn (λ r. r.c) zero_row 0 rows zeros i (omega arith) more g.executions refl;
           periods = copied_turn (λ r. r.t) zero_row 0 rows zeros i (omega arith) more g.periods refl;
         }
-
-    -- after the last row
-    pub ended : 64 ≤ i → (cs ≡ map (λ r. r.c) rows) × (ts ≡ map (λ r. r.t) rows)
-    ended full = (
-      copied_end (λ r. r.c) zero_row 0 rows zeros i (omega arith) full g.executions,
-      copied_end (λ r. r.t) zero_row 0 rows zeros i (omega arith) full g.periods,
-    )

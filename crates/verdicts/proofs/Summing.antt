@@ -35,10 +35,6 @@ module _ (h : ℕ) (cs ts : List ℕ) where
     pub within : i ≤ length cs
     pub whole : s + shares h (drop i (rows_of cs ts)) ≡ shares h (rows_of cs ts)
 
-  -- before the first row
-  pub start : Summing 0 0
-  start = record { within = zero-le; whole = zero-add (shares h (rows_of cs ts)) }
-
   module _ (sharing : Sharing h cs ts) where
     -- the whole sum is small
     pub few : shares h (rows_of cs ts) ≤ tasks_max * repeat_max

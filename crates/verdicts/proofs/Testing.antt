@@ -93,10 +93,6 @@ pub record Passed (rows : List Row) (i : ℕ) : Type 0 where
   pub rest : first (rows_tests (drop i rows)) ≡ first (rows_tests rows)
 
 module _ (rows : List Row) where
-  -- before the first row
-  pub start : Passed rows 0
-  start = record { within = zero-le; rest = refl }
-
   module _ {i : ℕ} (p : Passed rows i) where
     module _ (more : i < length rows) where
       abbrev here : List Test
