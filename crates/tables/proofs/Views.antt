@@ -1,6 +1,6 @@
 -- The table that a struct says, and the struct that says it; what the struct of an answer says.
 use Prim.Native.Nat.{ℕ, ◌-◌, ◌<◌, min}
-use mathlib.Core.Path.{◌≡◌, refl, ap, ◌∙◌}
+use mathlib.Core.Path.{◌≡◌, refl, sym, ap, ◌∙◌}
 use mathlib.Core.List.{List, [], ◌∷◌, ◌++◌, map}
 use native.Mathlib.Omega.{arith}
 use lib.ListN.{length, get_or, take, set, replicate, length-map, length-take, get_or-map}
@@ -28,6 +28,10 @@ table_full t vs owned = owned.1.1.1.1.0.1.0.1
 pub length-view : (t : Table) → length t.rows ≡ 64 → length (view t).rows ≡ min t.n.0 64
 unfolding view
 length-view t e = length-map (take t.n.0 t.rows) view_row ∙ length-take t.n.0 t.rows ∙ rw e
+
+-- and of a struct that a function is handed, as `rows_of` counts them
+pub rows-counted : (t : Table) {vs : List Val} → Is (row TableType.the_type) t vs → {n : ℕ} → n ≡ min t.n.0 64 → n ≡ length (view t).rows
+rows-counted t owned e = e ∙ sym (length-view t (table_full t _ owned))
 
 -- each row that counts
 pub row-view : (t : Table) (i : ℕ) → i < length (view t).rows → get_or (view t).rows i Tables.no_row ≡ view_row (get_or t.rows i zero_row)

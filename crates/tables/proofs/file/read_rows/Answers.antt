@@ -1,8 +1,5 @@
 -- `tables::file::read_rows` meets its contract: the rows that were read, and those that are read from here on, are the whole.
-use Prim.Native.Nat.{ℕ, ◌-◌}
-use mathlib.Core.List.{List}
-use mathlib.Core.Path.{◌≡◌, sym, ap, ◌∙◌}
-use lib.ListN.{length, take, drop}
+use mathlib.Core.Path.{sym, ap, ◌∙◌}
 use Rattle.tables.specs.Views.{pack_rows, without_rows}
 use Rattle.tables.specs.Rows.{row_outcome}
 use Rattle.laws.proofs.Tails.{tail_lent}
@@ -15,9 +12,7 @@ loop-i-init c = rows_start _ _
 
 pub returns-in_default : goal.returns-in_default
 returns-in_default c =
-    let text : List ℕ = c.args.s.now in
-    let place : ℕ = c.loop-i.at in
-    let lent : take (length text - place) (drop place text) ≡ drop place text = tail_lent text place c.loop-i.invariant.inside in
+    let lent = tail_lent c.args.s.now c.loop-i.at c.loop-i.invariant.inside in
     let told = c.in_default.is in
     c.no_rows.ensures
     ∙ ap without_rows (c.outcome.ensures ∙ ap row_outcome told)
@@ -25,9 +20,7 @@ returns-in_default c =
 
 pub loop-i-preserved : goal.loop-i-preserved
 loop-i-preserved c =
-    let text : List ℕ = c.args.s.now in
-    let place : ℕ = c.loop-i.at in
-    let lent : take (length text - place) (drop place text) ≡ drop place text = tail_lent text place c.loop-i.invariant.inside in
+    let lent = tail_lent c.args.s.now c.loop-i.at c.loop-i.invariant.inside in
     rows_go_on _ _ _ _ _ _ c.loop-i.invariant c.loop-i-test.true _ c.requires
     (rw lent at (sym c.read_row-a.ensures ∙ c.in-Good.is))
 

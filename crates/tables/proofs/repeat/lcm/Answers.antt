@@ -1,13 +1,18 @@
 -- `tables::repeat::lcm` meets its contract: the product of h and what is left of the period without the greatest common divisor.
-use Prim.Native.Nat.{◌*◌, ◌<◌, zero-le}
+use Prim.Native.Nat.{ℕ, ◌*◌, ◌/◌, ◌<◌, zero-le}
 use mathlib.Core.Path.{◌≡◌, sym, ap, ap₂, ◌∙◌}
 use lib.Arith.{lt_of_le-ne}
 use native.Mathlib.Omega.{arith}
 use Rattle.rules.specs.Repeat.{lcm}
 use Rattle.rules.specs.Kinds.{repeat_of}
+use Rattle.tables.specs.Repeats.{Gcd}
 use Rattle.tables.proofs.Bounds.{repeat_within, repeat_above}
 use Rattle.tables.proofs.Repeats.{gcd_pos, lcm-zero, lcm_gcd}
 use Rattle.tables.proofs.repeat.lcm.Goals as goal
+
+-- the product is the least common multiple
+product-of : {h t g x y : ℕ} → 0 < h → ¬ (t ≡ 0) → Gcd h t g → x ≡ h → y ≡ t / g → x * y ≡ lcm h t
+product-of positive some gcd ex ey = ap₂ ◌*◌ ex ey ∙ sym (lcm_gcd _ _ _ positive gcd (lt_of_le-ne zero-le (λ e. some (sym e))))
 
 pub returns-then-t-eq0 : goal.returns-then-t-eq0
 returns-then-t-eq0 c =
@@ -19,14 +24,10 @@ nonzero_div-t c = gcd_pos _ _ _ c.requires.positive c.gcd-g.ensures
 
 pub returns-then-wide-m : goal.returns-then-wide-m
 returns-then-wide-m c =
-    let product : c.wide.result * c.wide-2.result ≡ lcm c.args.h.0 c.args.t = let gcd = c.gcd-g in
-    let positive : 0 < c.args.t = lt_of_le-ne zero-le (λ e. c.if-t-eq0.false (sym e)) in
-    ap₂ ◌*◌ c.wide.ensures c.wide-2.ensures ∙ sym (lcm_gcd _ _ gcd.result c.requires.positive gcd.ensures positive) in
+    let product = product-of c.requires.positive c.if-t-eq0.false c.gcd-g.ensures c.wide.ensures c.wide-2.ensures in
     sym (repeat_above (lcm c.args.h.0 c.args.t) (omega (arith, product, c.wide-3.ensures)))
 
 pub returns : goal.returns
 returns c =
-    let product : c.wide.result * c.wide-2.result ≡ lcm c.args.h.0 c.args.t = let gcd = c.gcd-g in
-    let positive : 0 < c.args.t = lt_of_le-ne zero-le (λ e. c.if-t-eq0.false (sym e)) in
-    ap₂ ◌*◌ c.wide.ensures c.wide-2.ensures ∙ sym (lcm_gcd _ _ gcd.result c.requires.positive gcd.ensures positive) in
+    let product = product-of c.requires.positive c.if-t-eq0.false c.gcd-g.ensures c.wide.ensures c.wide-2.ensures in
     c.new.ensures ∙ ap repeat_of product

@@ -10,7 +10,6 @@ use Rattle.rules.specs.Files.{text}
 use Rattle.rules.specs.Tables as Tables
 use Rattle.rules.specs.Tables.{take_list}
 use Rattle.tables.specs.Views.{pack, view, table_answer}
-use Rattle.tables.specs.Lists.{list_rows}
 use Rattle.tables.specs.Writes.{outcome_answer, made}
 use Rattle.tables.specs.declared.table.Table.{Table}
 use Rattle.tables.specs.declared.table.Outcome.{Outcome}
@@ -25,8 +24,23 @@ use Rattle.tables.proofs.write.write_list.Goals as goal
 abbrev outcome-of : TableAnswer → Outcome
 outcome-of a = a.outcome
 
-abbrev table-in : TableAnswer → Table
-table-in a = a.table
+-- a list that `take_list` took, and n of its rows count
+record Told (m : ℕ) (rows : List Row) (a : TableAnswer) (n : ℕ) : Type 0 where
+  told : (table_answer (take_list m rows)).outcome ≡ Outcomes.Taken
+  count : n ≡ length rows
+  viewed : view a.table ≡ record { m = m; rows = rows }
+
+told-of : {m : ℕ} {rows : List Row} {a : TableAnswer} {n : ℕ} → a ≡ table_answer (take_list m rows)
+    → a.outcome ≡ Outcomes.Taken → n ≡ min a.table.n.0 64 → Told m rows a n
+unfolding pack
+told-of {m} {rows} {a} e taken counted =
+    let told : (table_answer (take_list m rows)).outcome ≡ Outcomes.Taken = ap outcome-of (sym e) ∙ taken in
+    let table_is : a.table ≡ pack (record { m = m; rows = rows }) = ap (λ (x : TableAnswer). x.table) e ∙ taken-table _ _ told in
+    record {
+      told = told;
+      count = counted ∙ ap (λ (t : Table). min t.n.0 64) table_is ∙ omega (arith, taken-few m rows told);
+      viewed = ap view table_is ∙ view-pack _;
+    }
 
 pub returns-in_default : goal.returns-in_default
 returns-in_default c =
@@ -36,48 +50,34 @@ returns-in_default c =
 
 pub returns-then-out-place : goal.returns-then-out-place
 returns-then-out-place c =
-    let rows : List Row = list_rows c.args.list.now in
-    let told : (table_answer (take_list c.args.m rows)).outcome ≡ Outcomes.Taken = ap outcome-of (sym c.take_list-taken.ensures) ∙ c.in-Taken.is in
-    no_room _ _ told _ _ (omega arith)
+    let list = told-of c.take_list-taken.ensures c.in-Taken.is c.rows_of.ensures in
+    no_room _ _ list.told _ _ (omega arith)
 
 pub returns-then-out-place-2 : goal.returns-then-out-place-2
-unfolding pack
 returns-then-out-place-2 c =
-    let rows : List Row = list_rows c.args.list.now in
-    let told : (table_answer (take_list c.args.m rows)).outcome ≡ Outcomes.Taken = ap outcome-of (sym c.take_list-taken.ensures) ∙ c.in-Taken.is in
-    let table_is : c.take_list-taken.result.table ≡ pack (record { m = c.args.m; rows = rows }) = ap table-in c.take_list-taken.ensures ∙ taken-table _ _ told in
-    let count : c.rows_of.result ≡ length rows = c.rows_of.ensures
-    ∙ ap (λ (t : Table). min t.n.0 64) table_is
-    ∙ omega (arith, taken-few c.args.m rows told) in
-    no_room _ _ told _ _ (omega (arith, count))
+    let list = told-of c.take_list-taken.ensures c.in-Taken.is c.rows_of.ensures in
+    no_room _ _ list.told _ _ (omega (arith, list.count))
 
 pub write_table-requires : goal.write_table-requires
-unfolding pack
 write_table-requires c =
-    let rows : List Row = list_rows c.args.list.now in
-    let told : (table_answer (take_list c.args.m rows)).outcome ≡ Outcomes.Taken = ap outcome-of (sym c.take_list-taken.ensures) ∙ c.in-Taken.is in
-    let table_is : c.take_list-taken.result.table ≡ pack (record { m = c.args.m; rows = rows }) = ap table-in c.take_list-taken.ensures ∙ taken-table _ _ told in
-    let count : c.rows_of.result ≡ length rows = c.rows_of.ensures
-    ∙ ap (λ (t : Table). min t.n.0 64) table_is
-    ∙ omega (arith, taken-few c.args.m rows told) in
-    let viewed : view c.take_list-taken.result.table ≡ record { m = c.args.m; rows = rows } = ap view table_is ∙ view-pack _ in
-    let args = c.args in
-    omega (arith, count, ap (λ (t : Tables.Table). length t.rows) viewed, length-take (length args.out.now - args.place) (drop args.place args.out.now), length-drop args.place args.out.now)
+    let list = told-of c.take_list-taken.ensures c.in-Taken.is c.rows_of.ensures in
+    let place = c.args.place in
+    let out = c.args.out.now in
+    omega (
+      arith,
+      list.count,
+      ap (λ (t : Tables.Table). length t.rows) list.viewed,
+      length-take (length out - place) (drop place out),
+      length-drop place out,
+    )
 
 pub returns : goal.returns
-unfolding pack
 returns c =
-    let rows : List Row = list_rows c.args.list.now in
-    let told : (table_answer (take_list c.args.m rows)).outcome ≡ Outcomes.Taken = ap outcome-of (sym c.take_list-taken.ensures) ∙ c.in-Taken.is in
-    let table_is : c.take_list-taken.result.table ≡ pack (record { m = c.args.m; rows = rows }) = ap table-in c.take_list-taken.ensures ∙ taken-table _ _ told in
-    let count : c.rows_of.result ≡ length rows = c.rows_of.ensures
-    ∙ ap (λ (t : Table). min t.n.0 64) table_is
-    ∙ omega (arith, taken-few c.args.m rows told) in
-    let viewed : view c.take_list-taken.result.table ≡ record { m = c.args.m; rows = rows } = ap view table_is ∙ view-pack _ in
-    let args = c.args in
-    let out = args.out.now in
+    let list = told-of c.take_list-taken.ensures c.in-Taken.is c.rows_of.ensures in
+    let place = c.args.place in
+    let out = c.args.out.now in
     let tail = c.write_table.new.out in
-    let part = take (length out - args.place) (drop args.place out) in
-    ap (λ (k : ℕ). made (Written (7 + 11 * k)) (put_mid args.place (length out - args.place) out tail)) count
-    ∙ room_given _ _ told out args.place tail (omega (arith, count))
-    (c.write_table.ensures ∙ ap (λ (t : Tables.Table). text t ++ drop (7 + 11 * length t.rows) part) viewed)
+    let part = take (length out - place) (drop place out) in
+    ap (λ (k : ℕ). made (Written (7 + 11 * k)) (put_mid place (length out - place) out tail)) list.count
+    ∙ room_given _ _ list.told out place tail (omega (arith, list.count))
+    (c.write_table.ensures ∙ ap (λ (t : Tables.Table). text t ++ drop (7 + 11 * length t.rows) part) list.viewed)

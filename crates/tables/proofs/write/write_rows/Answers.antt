@@ -1,9 +1,7 @@
 -- `tables::write::write_rows` meets its contract: the lines that are written stand at the front, one right after the other.
-use mathlib.Core.Path.{◌≡◌, refl, sym, ◌∙◌}
-use lib.ListN.{length}
+use mathlib.Core.Path.{refl}
 use Rattle.reading_laws.proofs.Laying.{no_piece, piece_room}
-use Rattle.tables.specs.Views.{view}
-use Rattle.tables.proofs.Views.{table_full, length-view}
+use Rattle.tables.proofs.Views.{rows-counted}
 use Rattle.tables.proofs.Writes.{next-line, lines-written}
 use Rattle.tables.proofs.write.write_rows.Goals as goal
 
@@ -12,15 +10,15 @@ loop-i-init c = no_piece refl c.requires
 
 pub write_pair-requires : goal.write_pair-requires
 write_pair-requires c =
-    let count : c.rows_of-n.result ≡ length (view c.args.table).rows = c.rows_of-n.ensures ∙ sym (length-view c.args.table (table_full c.args.table _ c.well_formed.1.0)) in
+    let count = rows-counted c.args.table c.well_formed.1.0 c.rows_of-n.ensures in
     piece_room c.loop-i.invariant (rw (← count) c.loop-i-test.true)
 
 pub loop-i-preserved : goal.loop-i-preserved
 loop-i-preserved c =
-    let count : c.rows_of-n.result ≡ length (view c.args.table).rows = c.rows_of-n.ensures ∙ sym (length-view c.args.table (table_full c.args.table _ c.well_formed.1.0)) in
+    let count = rows-counted c.args.table c.well_formed.1.0 c.rows_of-n.ensures in
     next-line _ c.loop-i.invariant (rw (← count) c.loop-i-test.true) c.write_pair.ensures
 
 pub returns : goal.returns
 returns c =
-    let count : c.rows_of-n.result ≡ length (view c.args.table).rows = c.rows_of-n.ensures ∙ sym (length-view c.args.table (table_full c.args.table _ c.well_formed.1.0)) in
+    let count = rows-counted c.args.table c.well_formed.1.0 c.rows_of-n.ensures in
     lines-written _ c.loop-i.invariant (rw (← count) c.loop-i-test.false)
