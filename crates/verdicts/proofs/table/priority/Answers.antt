@@ -1,6 +1,5 @@
 -- `verdicts::table::priority` meets its contract.
-use mathlib.Core.Path.{◌≡◌, sym, ap}
-use lib.ListN.{length}
+use mathlib.Core.Path.{sym, ap}
 use Rattle.rules.specs.Verdicts.{order}
 use Rattle.tables.specs.Views.{view}
 use Rattle.verdicts.specs.Structs.{pack_ranks, priority_answer}
@@ -9,9 +8,7 @@ use Rattle.verdicts.proofs.Testing.{known, refuses}
 use Rattle.verdicts.proofs.table.priority.Goals as goal
 
 pub ranked-requires : goal.ranked-requires
-ranked-requires c =
-    let full : length c.args.table.rows ≡ 64 = table_full c.args.table _ c.well_formed.0 in
-    (known _ c.test_table.ensures full c.in-Taken.is).sound
+ranked-requires c = (known _ c.test_table.ensures (table_full c.args.table _ c.well_formed.0) c.in-Taken.is).sound
 
 pub returns-in-Refused : goal.returns-in-Refused
 unfolding pack_ranks
