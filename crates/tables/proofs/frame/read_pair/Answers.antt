@@ -52,11 +52,13 @@ returns-then-s-end-ne-LINE_FEED c =
 
 pub overflow_cast-result : goal.overflow_cast-result
 overflow_cast-result c =
-    record { fits = number_fits c.args.s.now 2 c.args.width c.requires (there c.read_field-2.ensures c.in-Number-read_field.is) }
+    let first_of = there c.read_field-2.ensures c.in-Number-read_field.is in
+    record { fits = number_fits c.args.s.now 2 c.args.width c.requires first_of }
 
 pub overflow_cast-result-2 : goal.overflow_cast-result-2
 overflow_cast-result-2 c =
-    record { fits = number_fits c.args.s.now (2 + c.args.width) c.args.width c.requires (there c.read_field-3.ensures c.in-Number-read_field-2.is) }
+    let second-of = there c.read_field-3.ensures c.in-Number-read_field-2.is in
+    record { fits = number_fits c.args.s.now (2 + c.args.width) c.args.width c.requires second-of }
 
 pub returns : goal.returns
 returns c =

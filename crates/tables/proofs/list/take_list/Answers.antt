@@ -41,9 +41,7 @@ returns-in_default c =
     ∙ list_stops _ c.args.list.now _ _ (sym c.test_header-h.ensures ∙ told)
 
 pub test_rows-tested-requires : goal.test_rows-tested-requires
-test_rows-tested-requires c =
-    let passed = header-good _ _ _ _ (sym c.test_header-h.ensures ∙ c.in-Good.is) in
-    few_tasks _ _ passed.passed
+test_rows-tested-requires c = few_tasks _ _ (header-good _ _ _ _ (sym c.test_header-h.ensures ∙ c.in-Good.is)).passed
 
 pub returns-in_default-outcome : goal.returns-in_default-outcome
 returns-in_default-outcome c =
