@@ -11,4 +11,5 @@ count_heavy-requires c = columns _ (table_full c.args.table _ c.well_formed.0) c
 
 pub returns : goal.returns
 returns c =
-    judgement _ (table_full c.args.table _ c.well_formed.0) c.requires.sound c.split-columns.ensures c.requires c.judge.ensures c.count_heavy.ensures
+    judgement _ (table_full c.args.table _ c.well_formed.0) c.requires.sound c.split-columns.ensures c.requires
+    c.judge.ensures c.count_heavy.ensures

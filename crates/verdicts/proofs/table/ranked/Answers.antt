@@ -8,4 +8,6 @@ pub order-requires : goal.order-requires
 order-requires c = ranking _ (table_full c.args.table _ c.well_formed.0) c.requires c.split-columns.ensures
 
 pub returns : goal.returns
-returns c = c.numbered.ensures ∙ ranks-packed _ (table_full c.args.table _ c.well_formed.0) c.requires c.split-columns.ensures c.order.ensures
+returns c =
+    c.numbered.ensures
+    ∙ ranks-packed _ (table_full c.args.table _ c.well_formed.0) c.requires c.split-columns.ensures c.order.ensures

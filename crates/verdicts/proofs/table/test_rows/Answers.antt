@@ -14,8 +14,8 @@ use Rattle.verdicts.proofs.Testing.{turn, stopped, ended}
 use Rattle.verdicts.proofs.table.test_rows.Goals as goal
 
 -- what the test of a row says, of the row as the table has it
-said-of : (t : Table) {i : ℕ} {o : Outcome} → i < length (view t).rows → o ≡ outcome_of (first (row_tests (view_row (get_or t.rows i zero_row))))
-    → o ≡ outcome_of (first (row_tests (get_or (view t).rows i no_row)))
+said-of : (t : Table) {i : ℕ} {o : Outcome} → i < length (view t).rows
+    → o ≡ outcome_of (first (row_tests (view_row (get_or t.rows i zero_row)))) → o ≡ outcome_of (first (row_tests (get_or (view t).rows i no_row)))
 said-of t more e = e ∙ ap (λ (r : Row). outcome_of (first (row_tests r))) (sym (row-view t _ more))
 
 pub returns-in_default : goal.returns-in_default
