@@ -27,8 +27,9 @@ few-of : (s : State) {b : Bool} → b ≡ padded s → b ≡ true → tasks s �
 few-of s e holds = padded-few s (to_T (sym e ∙ holds))
 
 -- where the analysis is taken, the test of the ranks is that of the table's order
-ranks-held : {s : State} → Full s → tasks s ≤ tasks_max → {p : PriorityAnswer} → p ≡ priority_answer (settle (struct_tests s.table) (order (Tables.view s.table)))
-    → p.outcome ≡ Taken → {b : Bool} → b ≡ same (viewed (λ x. x.0) (tasks s) s.ranks) (viewed (λ x. x.0) (tasks s) p.ranks) → b ≡ held s
+ranks-held : {s : State} {p : PriorityAnswer} {b : Bool} → Full s → tasks s ≤ tasks_max
+    → p ≡ priority_answer (settle (struct_tests s.table) (order (Tables.view s.table))) → p.outcome ≡ Taken
+    → b ≡ same (viewed (λ x. x.0) (tasks s) s.ranks) (viewed (λ x. x.0) (tasks s) p.ranks) → b ≡ held s
 ranks-held {s} full few e taken said =
     let accepting = taken-accepts s.table full.rows few e taken in
     let order_is = taken-ranks s.table full.rows few e (analysis_accepted s.table full.rows few (to_T accepting)) in
