@@ -25,6 +25,7 @@ fn text(input: &[u8], out: &mut [u8]) -> usize
 }
 
 // Reads until the buffer is full or the input ends, and returns how many bytes stand at its front now: those that the reader gave.
+// Where a read fails, what stands in the buffer is left open.
 fn read_full<R: Read>(reader: &mut R, buf: &mut [u8]) -> io::Result<usize>
     ensures bound { IfOk result (λ n. n ≤ length buf.new) }
     ensures bytes { IfOk result (λ n. Consumes (R.remaining reader.old) (R.remaining reader.new) (take n buf.new)) }
