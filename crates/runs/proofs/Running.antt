@@ -4,7 +4,7 @@ use mathlib.Core.Path.{◌≡◌, refl, sym, ap, ◌∙◌, subst}
 use mathlib.Core.List.{List, [], ◌∷◌, ◌++◌, map, map-id}
 use native.Mathlib.Omega.{arith}
 use lib.Dec.{T}
-use lib.ListN.{length, take, drop, replicate, length-map, length-append, length-replicate}
+use lib.ListN.{length, take, drop, replicate, length-take, length-map, length-append, length-replicate}
 use lib.Seq.{length-take-le, take_at}
 use Rattle.laws.proofs.Each.{length-each}
 use Rattle.rules.specs.Limits.{tasks_max}
@@ -13,6 +13,7 @@ use Rattle.rules.specs.Tables as RuleTables
 use Rattle.rules.specs.Forms.{well_formed}
 use Rattle.rules.specs.States as States
 use Rattle.rules.specs.Runs.{after, slot_lines}
+use Rattle.priority_laws.proofs.Priority.{order-length}
 use Rattle.slot_laws.proofs.After.{after_table, after-ranks}
 use Rattle.slot_laws.proofs.Forms.{Kept, formed-kept}
 use Rattle.slot_laws.proofs.Books.{after_kept}
@@ -56,6 +57,48 @@ column : {n : ℕ} {a : List ℕ} (l : List ℕ) → n ≤ tasks_max → length 
 column {n} {a} l few size e =
     let long : n ≤ length a = rw e (omega (arith, plain_size l size few)) in
     record { long = long; count = sym (length-take-le n a long); front = rw e (plain-front l size) }
+
+-- the arrays of a state that was taken apart have a place for each task: `run_formed`'s own attribute names these
+module _ {s : State} {count : ℕ} {out : List ℕ} {p : Parts} (o : Open s count out) (e : p ≡ parts_of (view s)) where
+  whole : Kept (view s)
+  whole = formed-kept (view s) (formed_of s o.good)
+
+  long_array : {a : List ℕ} (l : List ℕ) → length l ≡ RuleTables.size (view s).table → a ≡ plain l → tasks s ≤ length a
+  long_array l size q = rw q (omega (arith, plain_size l size whole.taken.tasks_high, few_tasks s o.good))
+
+  pub long_c : tasks s ≤ length p.c
+  unfolding parts_of
+  long_c = long_array _ (length-map (view s).table.rows _) (ap (λ (x : Parts). x.c) e)
+
+  pub long_t : tasks s ≤ length p.t
+  unfolding parts_of
+  long_t = long_array _ (length-map (view s).table.rows _) (ap (λ (x : Parts). x.t) e)
+
+  pub long_ranks : tasks s ≤ length p.ranks
+  unfolding parts_of
+  long_ranks = long_array _ (ap length whole.ranked ∙ order-length (view s).table) (ap (λ (x : Parts). x.ranks) e)
+
+  pub long_phase : tasks s ≤ length p.phase
+  unfolding parts_of phases_in
+  long_phase = long_array _ (length-each (RuleTables.size (view s).table) _) (ap (λ (x : Parts). x.phase) e)
+
+  pub long_left : tasks s ≤ length p.left
+  unfolding parts_of
+  long_left = long_array _ whole.left_length (ap (λ (x : Parts). x.left) e)
+
+  pub long_last : tasks s ≤ length p.last
+  unfolding parts_of
+  long_last = long_array _ whole.last_length (ap (λ (x : Parts). x.last) e)
+
+  pub long_done : tasks s ≤ length p.done
+  unfolding parts_of
+  long_done = long_array _ whole.done_length (ap (λ (x : Parts). x.done) e)
+
+  pub long_dropped : tasks s ≤ length p.dropped
+  unfolding parts_of
+  long_dropped = long_array _ whole.dropped_length (ap (λ (x : Parts). x.dropped) e)
+
+pub ruleset long_arrays = (length-take, long_c, long_t, long_ranks, long_phase, long_left, long_last, long_done, long_dropped)
 
 -- all of them
 pub record Columns (n : ℕ) (p : Parts) (st : States.State) : Type 0 where

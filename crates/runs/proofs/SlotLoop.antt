@@ -114,6 +114,10 @@ module _ {st : State} {count : ℕ} {c t phase₀ out₀ : List ℕ} (r : Runnab
   pub few_cores : st.table.m ≤ cores_max
   few_cores = kept₀.taken.cores_high
 
+  -- the array of 32 cores has a front for them
+  pub cores_front : length (take st.table.m (replicate {A = ℕ} 32 0)) ≡ st.table.m
+  cores_front = length-take-le _ _ few_cores
+
   module _ {phase left last done dropped out : List ℕ} {moves misses place k : ℕ}
       (g : Run st count c t out₀ phase left last done dropped out moves misses place k) where
     abbrev m : ℕ

@@ -53,6 +53,7 @@ fn is_short(length: usize, at: usize, bytes: usize) -> bool
 }
 
 // The run itself, of a state that passed the tests, with its frames from the front of `out` on.
+#[tactic(auto, using(crate::proofs::Running::long_arrays))]
 fn run_formed(s: State, count: u32, out: &mut [u8]) -> State
     requires { Open s count out.old }
     ensures { RunFormed s count out.old result out.new }

@@ -2,7 +2,7 @@
 use mathlib.Core.Path.{sym, ap}
 use lib.ListN.{length}
 use lib.Seq.{length-take-le}
-use Rattle.runs.proofs.SlotLoop.{zeros_front, few_tasks, lengths, told, still, few_cores, start, slot-ready, front-placing, front_long, moves_fit, misses_fit, turn, last_lengths, ended}
+use Rattle.runs.proofs.SlotLoop.{zeros_front, few_tasks, lengths, told, still, few_cores, cores_front, start, slot-ready, front-placing, front_long, moves_fit, misses_fit, turn, last_lengths, ended}
 use Rattle.runs.proofs.slots.run_slots.Goals as goal
 
 pub frame_length-width-requires : goal.frame_length-width-requires
@@ -21,32 +21,32 @@ pub slice_bounds-cores-end : goal.slice_bounds-cores-end
 slice_bounds-cores-end c = few_cores c.requires
 
 pub slice_bounds-slot-end : goal.slice_bounds-slot-end
-slice_bounds-slot-end c = sym (length-take-le _ _ (few_cores c.requires))
+slice_bounds-slot-end c = sym (cores_front c.requires)
 
 pub slot-shown-requires : goal.slot-shown-requires
 slot-shown-requires c =
-    (slot-ready (still c.requires c.release.ensures) c.loop-k.invariant (length-take-le _ _ (few_cores c.requires)), zeros_front 32 c.args.m)
+    (slot-ready (still c.requires c.release.ensures) c.loop-k.invariant (cores_front c.requires), zeros_front 32 c.args.m)
 
 pub slice_bounds-cores-end-in-loop-k : goal.slice_bounds-cores-end-in-loop-k
 slice_bounds-cores-end-in-loop-k c =
-    front_long (still c.requires c.release.ensures) c.loop-k.invariant c.loop-k-test.true (length-take-le _ _ (few_cores c.requires)) c.slot-shown.ensures _
+    front_long (still c.requires c.release.ensures) c.loop-k.invariant c.loop-k-test.true (cores_front c.requires) c.slot-shown.ensures _
 
 pub slice_bounds-write_slot-end-in-loop-k : goal.slice_bounds-write_slot-end-in-loop-k
 slice_bounds-write_slot-end-in-loop-k c =
-    sym (length-take-le _ _ (front_long (still c.requires c.release.ensures) c.loop-k.invariant c.loop-k-test.true (length-take-le _ _ (few_cores c.requires)) c.slot-shown.ensures _))
+    sym (length-take-le _ _ (front_long (still c.requires c.release.ensures) c.loop-k.invariant c.loop-k-test.true (cores_front c.requires) c.slot-shown.ensures _))
 
 pub overflow_add-moves : goal.overflow_add-moves
 overflow_add-moves c =
-    record { fits = moves_fit (still c.requires c.release.ensures) c.loop-k.invariant c.loop-k-test.true (length-take-le _ _ (few_cores c.requires)) c.slot-shown.ensures }
+    record { fits = moves_fit (still c.requires c.release.ensures) c.loop-k.invariant c.loop-k-test.true (cores_front c.requires) c.slot-shown.ensures }
 
 pub overflow_add-misses : goal.overflow_add-misses
 overflow_add-misses c =
-    record { fits = misses_fit (still c.requires c.release.ensures) c.loop-k.invariant c.loop-k-test.true (length-take-le _ _ (few_cores c.requires)) c.slot-shown.ensures }
+    record { fits = misses_fit (still c.requires c.release.ensures) c.loop-k.invariant c.loop-k-test.true (cores_front c.requires) c.slot-shown.ensures }
 
 pub loop-k-preserved : goal.loop-k-preserved
 loop-k-preserved c =
     let run = still c.requires c.release.ensures in
-    let wide = (length-take-le _ _ (few_cores c.requires)) in
+    let wide = cores_front c.requires in
     turn run c.loop-k.invariant c.loop-k-test.true wide c.slot-shown.ensures c.frame_length-width.ensures
     (rw (front-placing run c.loop-k.invariant c.loop-k-test.true wide c.slot-shown.ensures _) at c.write_slot.ensures)
 
