@@ -6,14 +6,12 @@ use Rattle.stored.proofs.store.write_task.Goals as goal
 
 pub returns : goal.returns
 returns c =
-    let begun = c in
-    let start = begun in
-    let out = start.args.out.now in
-    let one = next_field out (no_field out) 0 refl 4 _ (omega (arith, start.requires)) begun.write_bytes.ensures in
-    let two = next_field out one 4 refl 4 _ (omega (arith, start.requires)) c.write_bytes-2.ensures in
-    let three = next_field out two 8 refl 1 _ (omega (arith, start.requires)) c.write_bytes-3.ensures in
-    let four = next_field out three 9 refl 1 _ (omega (arith, start.requires)) c.write_bytes-4.ensures in
-    let five = next_field out four 10 refl 8 _ (omega (arith, start.requires)) c.write_bytes-5.ensures in
-    let six = next_field out five 18 refl 8 _ (omega (arith, start.requires)) c.write_bytes-6.ensures in
-    let seven = next_field out six 26 refl 8 _ (omega (arith, start.requires)) c.write_bytes-7.ensures in
+    let out = c.args.out.now in
+    let one = next_field out (no_field out) 0 refl 4 _ (omega (arith, c.requires)) c.write_bytes.ensures in
+    let two = next_field out one 4 refl 4 _ (omega (arith, c.requires)) c.write_bytes-2.ensures in
+    let three = next_field out two 8 refl 1 _ (omega (arith, c.requires)) c.write_bytes-3.ensures in
+    let four = next_field out three 9 refl 1 _ (omega (arith, c.requires)) c.write_bytes-4.ensures in
+    let five = next_field out four 10 refl 8 _ (omega (arith, c.requires)) c.write_bytes-5.ensures in
+    let six = next_field out five 18 refl 8 _ (omega (arith, c.requires)) c.write_bytes-6.ensures in
+    let seven = next_field out six 26 refl 8 _ (omega (arith, c.requires)) c.write_bytes-7.ensures in
     all-fields out seven 34 refl
