@@ -1,11 +1,10 @@
 -- `reports::head::write_ranks` meets its contract: the front of the array of ranks is the order.
 use Prim.Native.Nat.{ℕ, ◌+◌, ◌*◌}
-use mathlib.Core.Path.{◌≡◌, ap, ◌∙◌}
+use mathlib.Core.Path.{ap, ◌∙◌}
 use mathlib.Core.List.{List, ◌++◌}
 use native.Mathlib.Omega.{arith}
-use lib.ListN.{length, take, drop}
+use lib.ListN.{length, drop}
 use Rattle.rules.specs.Runs.{order_line}
-use Rattle.rules.specs.Tables.{size}
 use Rattle.rules.specs.Verdicts.{order}
 use Rattle.priority_laws.proofs.Priority.{order-length}
 use Rattle.tables.specs.Views.{view}
@@ -15,14 +14,14 @@ use Rattle.reports.proofs.head.write_ranks.Goals as goal
 
 pub write_order-requires : goal.write_order-requires
 write_order-requires c =
-    let count : c.rows_of-n.result ≡ size (view c.args.t) = count_is c.args.t (table_full c.args.t _ c.well_formed.1.0) c.rows_of-n.ensures in
-    let front : take c.rows_of-n.result c.plain-ranks.result ≡ order (view c.args.t) = ranks-front c.args.t c.requires.opened c.priority-answer.ensures c.plain-ranks.ensures count in
-    omega (arith, count, ap length front, order-length (view c.args.t), c.requires.room)
+    let count = count_is _ (table_full _ _ c.well_formed.1.0) c.rows_of-n.ensures in
+    let front = ranks-front _ c.requires.opened c.priority-answer.ensures c.plain-ranks.ensures count in
+    omega (arith, ap length front, order-length (view c.args.t), c.requires.room)
 
 pub returns : goal.returns
 returns c =
-    let count : c.rows_of-n.result ≡ size (view c.args.t) = count_is c.args.t (table_full c.args.t _ c.well_formed.1.0) c.rows_of-n.ensures in
-    let front : take c.rows_of-n.result c.plain-ranks.result ≡ order (view c.args.t) = ranks-front c.args.t c.requires.opened c.priority-answer.ensures c.plain-ranks.ensures count in
+    let count = count_is _ (table_full _ _ c.well_formed.1.0) c.rows_of-n.ensures in
+    let front = ranks-front _ c.requires.opened c.priority-answer.ensures c.plain-ranks.ensures count in
     let tbl = view c.args.t in
     let out = c.args.out.now in
     c.write_order.ensures

@@ -5,15 +5,12 @@ use Rattle.reports.proofs.report.report.Goals as goal
 
 pub returns-then-out-at : goal.returns-then-out-at
 returns-then-out-at c =
-    let a = c.args in
-    no_room a.input.now a.out.now a.at c.read_input-answer.ensures c.reply_length-size.ensures (omega arith)
+    no_room _ _ _ c.read_input-answer.ensures c.reply_length-size.ensures (omega arith)
 
 pub returns-then-out-at-2 : goal.returns-then-out-at-2
 returns-then-out-at-2 c =
-    let a = c.args in
-    no_room a.input.now a.out.now a.at c.read_input-answer.ensures c.reply_length-size.ensures (omega arith)
+    no_room _ _ _ c.read_input-answer.ensures c.reply_length-size.ensures (omega arith)
 
 pub returns : goal.returns
 returns c =
-    let a = c.args in
-    room_given a.input.now a.out.now a.at c.read_input-answer.ensures c.reply_length-size.ensures (omega arith) c.write_reply.ensures
+    room_given _ _ _ c.read_input-answer.ensures c.reply_length-size.ensures (omega arith) c.write_reply.ensures
