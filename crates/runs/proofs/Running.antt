@@ -58,6 +58,17 @@ column {n} {a} l few size e =
     let long : n ≤ length a = rw e (omega (arith, plain_size l size few)) in
     record { long = long; count = sym (length-take-le n a long); front = rw e (plain-front l size) }
 
+-- all of them
+pub record Columns (n : ℕ) (p : Parts) (st : States.State) : Type 0 where
+  pub c : Column n p.c (units_of st.table)
+  pub t : Column n p.t (periods_of st.table)
+  pub ranks : Column n p.ranks st.ranks
+  pub phase : Column n p.phase (phases_in st.table st.clock)
+  pub left : Column n p.left st.left
+  pub last : Column n p.last st.last
+  pub done : Column n p.done st.done
+  pub dropped : Column n p.dropped st.dropped
+
 -- the arrays of a state that was taken apart have a place for each task: `run_formed`'s own attribute names these
 module _ {s : State} {count : ℕ} {out : List ℕ} {p : Parts} (o : Open s count out) (e : p ≡ parts_of (view s)) where
   whole : Kept (view s)
@@ -99,17 +110,6 @@ module _ {s : State} {count : ℕ} {out : List ℕ} {p : Parts} (o : Open s coun
   long_dropped = long_array _ whole.dropped_length (ap (λ (x : Parts). x.dropped) e)
 
 pub ruleset long_arrays = (length-take, long_c, long_t, long_ranks, long_phase, long_left, long_last, long_done, long_dropped)
-
--- all of them
-pub record Columns (n : ℕ) (p : Parts) (st : States.State) : Type 0 where
-  pub c : Column n p.c (units_of st.table)
-  pub t : Column n p.t (periods_of st.table)
-  pub ranks : Column n p.ranks st.ranks
-  pub phase : Column n p.phase (phases_in st.table st.clock)
-  pub left : Column n p.left st.left
-  pub last : Column n p.last st.last
-  pub done : Column n p.done st.done
-  pub dropped : Column n p.dropped st.dropped
 
 module _ {s : State} {count : ℕ} {out : List ℕ} (o : Open s count out) (full : Full s) where
   few : tasks s ≤ tasks_max
