@@ -47,16 +47,15 @@ module _ (l : List ℕ) {n : ℕ} (size : length l ≡ n) where
   unfolding packed
   plain_size few = rw (map-id l) (length-append l (replicate (tasks_max - length l) 0) ∙ omega (arith, length-replicate {A = ℕ} (tasks_max - length l) 0))
 
--- an array of plain numbers: its length, and what its front is
+-- an array of plain numbers: how long its front is, and what it is
 pub record Column (n : ℕ) (a l : List ℕ) : Type 0 where
-  pub long : n ≤ length a
   pub count : n ≡ length (take n a)
   pub front : take n a ≡ l
 
 column : {n : ℕ} {a : List ℕ} (l : List ℕ) → n ≤ tasks_max → length l ≡ n → a ≡ plain l → Column n a l
 column {n} {a} l few size e =
     let long : n ≤ length a = rw e (omega (arith, plain_size l size few)) in
-    record { long = long; count = sym (length-take-le n a long); front = rw e (plain-front l size) }
+    record { count = sym (length-take-le n a long); front = rw e (plain-front l size) }
 
 -- all of them
 pub record Columns (n : ℕ) (p : Parts) (st : States.State) : Type 0 where
