@@ -1,32 +1,32 @@
 -- Bytes read as a state: a well-formed state of their own length, or refused. The struct of a well-formed state says that state:
 -- what is asked of it is asked of the state, and its bytes are the state's.
+use Rattle.std.proofs.Common.{Ok}
 use Prim.Native.Nat.{ℕ}
 use mathlib.Core.Path.{◌≡◌, refl, sym, ap, subst, ◌∙◌}
 use mathlib.Core.Bool.{Bool, true, false, not}
 use mathlib.Core.List.{List, [], ◌∷◌}
-use native.Mathlib.Omega.{arith}
 use lib.Dec.{T, eqb, eqb→eq}
 use lib.ListN.{length}
 use Rattle.laws.proofs.Tests.{never, of_T}
-use Rattle.rules.specs.Refusals.{Test, test, Answer, taken, refused, settle, and_then}
-use Rattle.rules.specs.Tables.{size, header_tests, list_tests, accepts}
+use Rattle.rules.specs.Refusals.{test, Answer, taken, refused, settle}
+use Rattle.rules.specs.Tables.{size}
 use Rattle.rules.specs.States.{State}
 use Rattle.rules.specs.Forms.{well_formed}
 use Rattle.rules.specs.Answers.{state_test}
 use Rattle.rules.specs.declared.refusal.Refusal.TheVariants.{BadState}
 use Rattle.slot_laws.proofs.Forms.{formed-kept, accepts_of}
-use Rattle.machine.specs.Views.{view, pack, padded, formed}
+use Rattle.machine.specs.Views.{view, pack, padded}
+use Rattle.machine.specs.Tables.{Opened}
+use Rattle.machine.specs.declared.state.State as Code
 use Rattle.machine.specs.Answers.{asked}
 use Rattle.machine.proofs.Packing.{view-pack}
-use Rattle.machine.proofs.Packed.{formed-pack, kept-sized, struct_formed}
+use Rattle.machine.proofs.Packed.{kept-sized, struct_formed}
 use Rattle.machine.proofs.Starting.{opened}
-use Rattle.machine.proofs.Asking.{formed-says, asked_ill, text_well}
+use Rattle.machine.proofs.Asking.{formed-says, text_well}
 use Rattle.stored.specs.Layout.{length_of, store, size_in, decoded, load}
-use Rattle.stored.specs.Answers.{no_state, state_answer, store_state, stored_state}
-use Rattle.stored.specs.declared.load.StateAnswer.{StateAnswer}
+use Rattle.stored.specs.Answers.{state_answer, store_state, stored_state}
 use Rattle.stored.proofs.Round.{decoded-size}
 use Rattle.tables.specs.Writes.{wrote_text}
-use Rattle.capi.specs.Answers.{Judgeable}
 
 -- ---- the struct of a well-formed state
 
@@ -60,29 +60,31 @@ pub loads : (bs : List ℕ) → Loads bs (load bs)
 unfolding load state_test
 loads bs = by_tests_lem bs (eqb (length bs) (length_of (size_in bs))) (well_formed (decoded bs)) (eqb→eq (length bs) (length_of (size_in bs))) (λ t. t)
 
--- the state with no core and no task is not well formed
-no_state_lem : formed no_state ≡ false
-unfolding no_state well_formed accepts list_tests header_tests
-no_state_lem = formed-pack _ (record { ranks = refl; left = refl; last = refl; done = refl; dropped = refl }) (omega arith)
+-- ---- a struct that was loaded
 
--- what is asked of the struct that was read is asked of the state in the bytes
-module _ {A : Type 0} (tests : State → List Test) (value : State → A) where
-  abbrev ask : State → Answer A
-  ask st = settle (state_test st ∷ tests st) (value st)
+-- the state that it says, which the bytes stand for
+pub record Loaded (bs : List ℕ) (s : Code.State) : Type 0 where
+  pub st : State
+  pub read : load bs ≡ taken st
+  pub packed : pack st ≡ s
+  pub good : T (well_formed st)
+  pub long : length bs ≡ length_of (size st.table)
 
-  by_loads : {bs : List ℕ} {a : Answer State} → Loads bs a → asked (state_answer a).state ask ≡ and_then a ask
-  unfolding state_answer
-  by_loads (well st w len) = asked-packed st w ask
-  by_loads ill = asked_ill no_state tests value no_state_lem
+by_loads : {bs : List ℕ} {s : Code.State} {a : Answer State} → Loads bs a → load bs ≡ a → state_answer a ≡ Ok s → Loaded bs s
+by_loads (well st good long) read e =
+    let same : pack st ≡ _ = cc in
+    record { st = st; read = read; packed = same; good = good; long = long }
+by_loads ill read e = never cc
 
-  pub asked_loaded : (bs : List ℕ) → asked (state_answer (load bs)).state ask ≡ and_then (load bs) ask
-  asked_loaded bs = by_loads (loads bs)
+pub loaded : (bs : List ℕ) {s : Code.State} → state_answer (load bs) ≡ Ok s → Loaded bs s
+loaded bs e = by_loads (loads bs) refl e
 
--- a run could start with the table of a state that was read
-judgeable : {bs : List ℕ} {a : Answer State} → Loads bs a → Judgeable (state_answer a)
-unfolding state_answer pack
-judgeable (well st w len) = λ told. opened st.table (accepts_of st.table (formed-kept st w).taken)
-judgeable ill = λ told. never cc
+module _ {bs : List ℕ} {s : Code.State} (l : Loaded bs s) where
+  -- what is asked of the struct is asked of the state
+  pub asked_loaded : {A : Type 0} (ask : State → Answer A) → asked s ask ≡ ask l.st
+  asked_loaded ask = ap (λ (x : Code.State). asked x ask) (sym l.packed) ∙ asked-packed l.st l.good ask
 
-pub loads_judgeable : (bs : List ℕ) {x : StateAnswer} → x ≡ state_answer (load bs) → Judgeable x
-loads_judgeable bs e = subst Judgeable (sym e) (judgeable (loads bs))
+  -- a run could start with its table
+  pub table_opened : Opened s.table
+  unfolding pack
+  table_opened = subst (λ (x : Code.State). Opened x.table) l.packed (opened l.st.table (accepts_of l.st.table (formed-kept l.st l.good).taken))

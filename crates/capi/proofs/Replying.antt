@@ -1,4 +1,5 @@
 -- What a function answered that writes into a buffer, as the call returns and leaves it.
+use Rattle.std.proofs.Common.{Result, Err}
 use Prim.Native.Nat.{ℕ}
 use mathlib.Core.Path.{◌≡◌, ap, ◌∙◌}
 use mathlib.Core.List.{List, [], ◌∷◌}
@@ -7,15 +8,13 @@ use Rattle.rules.specs.Refusals.{Answer, taken, refused, settle}
 use Rattle.rules.specs.Answers.{lay, room_test}
 use Rattle.rules.specs.declared.refusal.Refusal.{Refusal}
 use Rattle.tables.specs.Writes.{Wrote, made, wrote, wrote_text}
-use Rattle.tables.specs.declared.write.WriteAnswer.{WriteAnswer}
-use Rattle.tables.specs.declared.write.WriteAnswer.TheVariants.{Refused}
 use Rattle.capi.specs.Calls.{reply, replied, Filled, filled, sized, laid}
 use Rattle.capi.specs.Answers.{numbered}
 
 -- the answer and the buffer, then the number and the size
-module _ (out : List ℕ) (before : ℕ) {w : WriteAnswer} {out' : List ℕ} {number size : ℕ} (settled : reply number size ≡ numbered before w) where
+module _ (out : List ℕ) (before : ℕ) {w : Result ℕ Refusal} {out' : List ℕ} {number size : ℕ} (settled : reply number size ≡ numbered before w) where
   -- what was written is one value
-  joined : {v : WriteAnswer} {b : List ℕ} → made w out' ≡ made v b → reply number (filled out' size) ≡ reply (numbered before v).number (filled b (numbered before v).left)
+  joined : {v : Result ℕ Refusal} {b : List ℕ} → made w out' ≡ made v b → reply number (filled out' size) ≡ reply (numbered before v).number (filled b (numbered before v).left)
   joined {v} e =
       let both : reply number size ≡ numbered before v = settled ∙ ap (λ (x : Wrote). numbered before x.answer) e in
       λ j. reply (both j).number (filled (e j).out (both j).left)
@@ -30,6 +29,6 @@ module _ (out : List ℕ) (before : ℕ) {w : WriteAnswer} {out' : List ℕ} {nu
   text-replied place txt e = wrote-replied (length txt) (settle (room_test out place (length txt) ∷ []) (lay out place txt)) e
 
   -- nothing was written
-  pub refusal-replied : (r : Refusal) (l : ℕ) → made w out' ≡ made (Refused r) out → reply number (filled out' size) ≡ replied {A = Filled} (filled out before) (refused r l)
+  pub refusal-replied : (r : Refusal) (l : ℕ) → made w out' ≡ made (Err r) out → reply number (filled out' size) ≡ replied {A = Filled} (filled out before) (refused r l)
   unfolding replied
   refusal-replied r l e = joined e

@@ -1,77 +1,65 @@
 -- What is asked of a stored state, and the reply: the totals, and a task's lead.
-use Prim.Native.Nat.{ℕ}
-use mathlib.Core.Path.{◌≡◌, refl, sym, ap, ◌∙◌}
-use mathlib.Core.List.{List, [], ◌∷◌}
-use lib.IntN.{ℤ}
-use lib.ListN.{length}
-use Rattle.rules.specs.Refusals.{number_of, test, Answer, taken, refused, and_then}
-use Rattle.rules.specs.Tables.{size, outside}
+use Rattle.std.proofs.Common.{◌≡◌, refl, sym, ap, ◌∙◌, ℕ, List, length, Result, Err}
+use Rattle.rules.specs.Refusals.{Answer, taken, refused, and_then}
+use Rattle.rules.specs.Results.{plain_reply}
 use Rattle.rules.specs.States.{State}
-use Rattle.rules.specs.Runs.{lead, totals_line}
-use Rattle.rules.specs.Answers.{lay, room_test, write_totals, ask_lead}
+use Rattle.rules.specs.Runs.{totals_line}
+use Rattle.rules.specs.Answers.{write_totals, ask_lead}
 use Rattle.rules.specs.declared.refusal.Refusal.{Refusal}
-use Rattle.rules.specs.declared.refusal.Refusal.TheVariants.{BadTasks}
+use Rattle.rules.proofs.Results.{plain_err}
 use Rattle.slot_laws.proofs.Lengths.{length-totals_line}
 use Rattle.tables.specs.Writes.{made, wrote}
-use Rattle.tables.specs.declared.write.WriteAnswer.{WriteAnswer}
+use Rattle.machine.specs.Views.{pack}
 use Rattle.machine.specs.Answers.{asked, lead_answer}
-use Rattle.machine.specs.declared.lead.LeadAnswer.{LeadAnswer}
-use Rattle.machine.specs.declared.lead.LeadAnswer.TheVariants.{Taken, Refused}
+use Rattle.machine.specs.declared.state.State as Code
 use Rattle.stored.specs.Layout.{load}
 use Rattle.stored.specs.Answers.{state_answer}
-use Rattle.stored.specs.declared.load.StateAnswer.{StateAnswer}
 use Rattle.capi.specs.Calls.{reply, replied, filled, sized, give_totals, give_lead}
 use Rattle.capi.specs.Answers.{numbered}
 use Rattle.capi.proofs.Replying.{wrote-replied}
-use Rattle.capi.proofs.Loading.{asked_loaded}
+use Rattle.capi.proofs.Loading.{Loaded, asked_loaded}
 
--- the struct that was read
-module _ (bs : List ℕ) {x : StateAnswer} (read : x ≡ state_answer (load bs)) where
-  -- ---- the totals
+-- ---- the totals
 
-  module _ (out : List ℕ) (place : ℕ) where
-    asked-totals : asked x.state (λ st. write_totals st out place) ≡ and_then (load bs) (λ st. write_totals st out place)
-    unfolding write_totals
-    asked-totals =
-        ap (λ (y : StateAnswer). asked y.state (λ st. write_totals st out place)) read
-        ∙ asked_loaded (λ st. room_test out place (length (totals_line st)) ∷ []) (λ st. lay out place (totals_line st)) bs
+module _ (bs : List ℕ) (out : List ℕ) (place : ℕ) where
+  abbrev totals_in : Answer (List ℕ)
+  totals_in = and_then (load bs) (λ st. write_totals st out place)
 
-    -- every frame `14` is as long
-    size_given : (a : Answer State) → sized 51 (and_then a (λ st. write_totals st out place)) ≡ and_then a (λ st. sized (length (totals_line st)) (write_totals st out place))
-    unfolding sized
-    size_given (taken st) = rw (length-totals_line st)
-    size_given (refused r l) = refl
+  -- of a state that was loaded
+  pub totals_loaded : {s : Code.State} → Loaded bs s → wrote 51 out (asked s (λ st. write_totals st out place)) ≡ wrote 51 out totals_in
+  totals_loaded l = ap (wrote 51 out) (asked_loaded l (λ st. write_totals st out place) ∙ sym (ap (λ (a : Answer State). and_then a (λ st. write_totals st out place)) l.read))
 
-    pub totals-replied : (before : ℕ) {w : WriteAnswer} {out' : List ℕ} {number size : ℕ} → reply number size ≡ numbered before w
-        → made w out' ≡ wrote 51 out (asked x.state (λ st. write_totals st out place))
-        → reply number (filled out' size) ≡ replied (filled out before) (give_totals bs out place)
-    unfolding give_totals
-    totals-replied before settled e =
-        wrote-replied out before settled 51 (and_then (load bs) (λ st. write_totals st out place)) (e ∙ ap (wrote 51 out) asked-totals)
-        ∙ ap (replied (filled out before)) (size_given (load bs))
+  -- of bytes that are no state
+  pub totals_missing : {r : Refusal} → state_answer (load bs) ≡ Err r → made (Err r) out ≡ wrote 51 out totals_in
+  unfolding wrote
+  totals_missing e = rw (plain_err pack (load bs) e).1
 
-  -- ---- the lead
+  -- every frame `14` is as long
+  size_given : (a : Answer State) → sized 51 (and_then a (λ st. write_totals st out place)) ≡ and_then a (λ st. sized (length (totals_line st)) (write_totals st out place))
+  unfolding sized
+  size_given (taken st) = rw (length-totals_line st)
+  size_given (refused r l) = refl
 
-  module _ (task : ℕ) (before : ℤ) {answer : LeadAnswer} (e : answer ≡ lead_answer (asked x.state (λ st. ask_lead st task))) where
-    asked-lead : answer ≡ lead_answer (give_lead bs task)
-    unfolding ask_lead give_lead
-    asked-lead =
-        e
-        ∙ ap (λ (y : StateAnswer). lead_answer (asked y.state (λ st. ask_lead st task))) read
-        ∙ ap lead_answer (asked_loaded (λ st. test (outside task 1 (size st.table)) BadTasks ∷ []) (λ st. lead st task) bs)
+  pub totals-replied : (before : ℕ) {w : Result ℕ Refusal} {out' : List ℕ} {number size : ℕ} → reply number size ≡ numbered before w → made w out' ≡ wrote 51 out totals_in
+      → reply number (filled out' size) ≡ replied (filled out before) (give_totals bs out place)
+  unfolding give_totals
+  totals-replied before settled e = wrote-replied out before settled 51 totals_in e ∙ ap (replied (filled out before)) (size_given (load bs))
 
-    by_taken : (b : Answer ℤ) {z : ℤ} → lead_answer b ≡ Taken z → reply 0 z ≡ replied before b
-    unfolding replied
-    by_taken (taken y) told = cc
-    by_taken (refused r l) told = cc
+-- ---- the lead
 
-    by_refused : (b : Answer ℤ) {r : Refusal} → lead_answer b ≡ Refused r → reply (number_of r) before ≡ replied before b
-    unfolding replied
-    by_refused (taken y) told = cc
-    by_refused (refused r l) told = cc
+module _ (bs : List ℕ) (task : ℕ) where
+  -- of a state that was loaded
+  pub lead_loaded : {s : Code.State} → Loaded bs s → lead_answer (asked s (λ st. ask_lead st task)) ≡ plain_reply (λ z. z) (give_lead bs task)
+  unfolding give_lead
+  lead_loaded l = ap lead_answer (asked_loaded l (λ st. ask_lead st task) ∙ sym (ap (λ (a : Answer State). and_then a (λ st. ask_lead st task)) l.read))
 
-    pub lead-taken : {z : ℤ} → answer ≡ Taken z → reply 0 z ≡ replied before (give_lead bs task)
-    lead-taken told = by_taken (give_lead bs task) (sym asked-lead ∙ told)
+  -- of bytes that are no state
+  pub lead_missing : {r : Refusal} → state_answer (load bs) ≡ Err r → Err r ≡ plain_reply (λ z. z) (give_lead bs task)
+  unfolding give_lead
+  lead_missing e = rw (plain_err pack (load bs) e).1
 
-    pub lead-refused : {r : Refusal} → answer ≡ Refused r → reply (number_of r) before ≡ replied before (give_lead bs task)
-    lead-refused told = by_refused (give_lead bs task) (sym asked-lead ∙ told)
+-- the number and the value of an answer without its line
+pub plain-replied : {A : Type 0} (before : A) (a : Answer A) → numbered before (plain_reply (λ v. v) a) ≡ replied before a
+unfolding replied
+plain-replied before (taken v) = refl
+plain-replied before (refused r l) = refl

@@ -7,33 +7,29 @@ ghost use Rattle.capi.specs.Answers.{line_in, Startable, fresh_of};
 
 use crate::answer::settle;
 use machine::fresh::fresh;
+use rules::refusal::{Refusal, Refused};
 use stored::store::store;
 use tables::file::read_file;
 use tables::list::take_list;
-use tables::table::{Outcome, TableAnswer};
-use tables::write::{WriteAnswer, write_list};
+use tables::table::Table;
+use tables::write::write_list;
 
 // The line of a refusal, 0 where a table is taken.
-fn line_of(o: Outcome) -> u32
-    ensures { result ≡ line_in o }
+fn line_of(taken: Result<Table, Refused>) -> u32
+    ensures { result ≡ line_in taken }
 {
-    match o {
-        Outcome::Taken => 0,
-        Outcome::Refused(_, line) => line,
+    match taken {
+        Ok(_) => 0,
+        Err(refused) => refused.line,
     }
 }
 
 // The fresh state of a table that was taken, at the front of the buffer.
-fn open_table(taken: TableAnswer, state: &mut [u8]) -> WriteAnswer
+fn open_table(taken: Result<Table, Refused>, state: &mut [u8]) -> Result<usize, Refusal>
     requires { Startable taken }
-    ensures { made result state.new ≡ fresh_of taken.outcome taken.table state.old }
+    ensures { made result state.new ≡ fresh_of taken state.old }
 {
-    let outcome = taken.outcome;
-    let table = taken.table;
-    match outcome {
-        Outcome::Taken => store(fresh(table), state, 0),
-        Outcome::Refused(r, _) => WriteAnswer::Refused(r),
-    }
+    store(fresh(taken?), state, 0)
 }
 
 // Opens a table file: its fresh state becomes the front of `state`, and `size` the number of its bytes. `line` is the line of a
@@ -42,8 +38,7 @@ pub fn zq_open(file: &[u8], state: &mut [u8], size: &mut usize, line: &mut u32) 
     ensures { read (reply result (filled state.new size.new)) line.new ≡ opened (filled state.old size.old) (open_file file.now state.old) }
 {
     let taken = read_file(file);
-    let outcome = taken.outcome;
-    *line = line_of(outcome);
+    *line = line_of(taken);
     settle(open_table(taken, state), size)
 }
 

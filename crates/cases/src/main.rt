@@ -3,21 +3,20 @@
 
 use std::io;
 use tables::table::Table;
-use verdicts::table::VerdictAnswer;
 
 fn show_verdict(rt: &HostRuntime, table: Table) -> io::Result<()> {
-    let VerdictAnswer::Judged(j) = verdicts::table::verdict(table) else {
+    let Ok(j) = verdicts::table::verdict(table) else {
         return rt.write_all(b"refused\n");
     };
-    let verdict = j.verdict;
     let mut out = [0u8; 15];
-    verdicts::lines::write_verdict(&mut out, verdict, j.heavy, j.repeat.0);
+    verdicts::lines::write_verdict(&mut out, j.verdict, j.heavy, j.repeat.0);
     rt.write_all(&out)
 }
 
 fn show_order(rt: &HostRuntime, table: Table) -> io::Result<()> {
-    let answer = verdicts::table::priority(table);
-    let tasks = answer.ranks;
+    let Ok(tasks) = verdicts::table::priority(table) else {
+        return rt.write_all(b"refused\n");
+    };
     let ranks = verdicts::table::plain(tasks);
     let n = tables::repeat::rows_of(table.n);
     let end = 2 * n + 3;
@@ -28,8 +27,9 @@ fn show_order(rt: &HostRuntime, table: Table) -> io::Result<()> {
 
 fn show(rt: &HostRuntime, letter: &[u8], m: u32, rows: &[[u32; 2]]) -> io::Result<()> {
     rt.write_all(letter)?;
-    let taken = tables::list::take_list(m, rows);
-    let table = taken.table;
+    let Ok(table) = tables::list::take_list(m, rows) else {
+        return rt.write_all(b"refused\n");
+    };
     show_verdict(rt, table)?;
     show_order(rt, table)
 }

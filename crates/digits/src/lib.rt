@@ -1,24 +1,11 @@
 // Lowercase hexadecimal digits and big-endian fields of them: read out of a text, and written into one.
 #![tactic(auto)]
 
-ghost use Rattle.std.specs.Prelude.{◌≡◌, cond, ◌++◌, ◌+◌, ◌%◌, ◌≤◌, ◌<◌, ltb, length, take, drop};
+ghost use Rattle.std.specs.Prelude.{◌≡◌, ◌++◌, cond, ◌+◌, ◌≤◌, ◌<◌, ltb, length, take, drop};
 ghost use Rattle.laws.specs.Digits.{digit as digit_of, digit_value, value, field};
 ghost use Rattle.rules.specs.Answers.{lay};
-ghost use Rattle.digits.specs.Answers.{digit_answer, field_answer, Within};
-
-// What a byte stands for.
-#[derive(Clone, Copy)]
-pub enum DigitAnswer {
-    Value(u8),
-    NoDigit,
-}
-
-// What a stretch of digits stands for.
-#[derive(Clone, Copy)]
-pub enum FieldAnswer {
-    Number(u64),
-    NoDigit,
-}
+ghost use Rattle.rules.specs.Results.{option};
+ghost use Rattle.digits.specs.Fields.{Within};
 
 // How far a digit lies above the number that it stands for: a value and no branch where digits are written.
 fn above(v: u8) -> u8
@@ -28,6 +15,7 @@ fn above(v: u8) -> u8
 }
 
 // The digit for a number below 16.
+#[tactic(auto, unfolding(laws::specs::Digits::digit))]
 pub fn digit(v: u8) -> u8
     requires { v < 16 }
     ensures { result ≡ digit_of v }
@@ -36,51 +24,35 @@ pub fn digit(v: u8) -> u8
 }
 
 // The number that a byte stands for, if it is a digit.
-pub fn digit_value(b: u8) -> DigitAnswer
-    ensures { result ≡ digit_answer (digit_value b) }
+#[tactic(auto, unfolding(laws::specs::Digits::digit_value))]
+pub fn digit_value(b: u8) -> Option<u8>
+    ensures { result ≡ option (λ v. v) (digit_value b) }
 {
-    if b < 48 {
-        return DigitAnswer::NoDigit;
+    match b {
+        b'0'..=b'9' => Some(b - b'0'),
+        b'a'..=b'f' => Some(b - b'a' + 10),
+        _ => None,
     }
-    if b <= 57 {
-        return DigitAnswer::Value(b - 48);
-    }
-    if b < 97 {
-        return DigitAnswer::NoDigit;
-    }
-    if b <= 102 {
-        return DigitAnswer::Value(b - 87);
-    }
-    DigitAnswer::NoDigit
 }
 
-fn wide(d: u8) -> u64
-    ensures { result ≡ d }
-{
-    d as u64
-}
-
-// The number that the `width` digits of s from a place on stand for.
-pub fn read_field(s: &[u8], from: usize, width: usize) -> FieldAnswer
-    requires { Within s.now from width }
-    ensures { result ≡ field_answer (value (take width (drop from s.now))) }
+// The number that up to 16 digits stand for, if they are digits.
+fn read_digits(s: &[u8]) -> Option<u64>
+    requires { length s.now ≤ 16 }
+    ensures { result ≡ option (λ v. v) (value s.now) }
 {
     let mut v: u64 = 0;
-    let mut i: usize = 0;
-    while i < width {
-        let DigitAnswer::Value(d) = digit_value(s[from + i]) else {
-            return FieldAnswer::NoDigit;
-        };
-        v = v * 16 + wide(d);
-        i = i + 1;
+    for b in s {
+        v = v * 16 + u64::from(digit_value(*b)?);
     }
-    FieldAnswer::Number(v)
+    Some(v)
 }
 
-fn low(v: u64) -> u8
-    ensures { result ≡ digit_of (v % 16) }
+// The number that the `width` digits of s from a place on stand for, if they are digits.
+pub fn read_field(s: &[u8], from: usize, width: usize) -> Option<u64>
+    requires { Within s.now from width }
+    ensures { result ≡ option (λ v. v) (value (take width (drop from s.now))) }
 {
-    digit((v % 16) as u8)
+    read_digits(&s[from..from + width])
 }
 
 // The first `width` bytes become v in so many digits; nothing after them differs.
@@ -88,12 +60,10 @@ fn write_digits(out: &mut [u8], width: usize, v: u64)
     requires { width ≤ length out.old }
     ensures { out.new ≡ field width v ++ drop width out.old }
 {
-    let mut rest: u64 = v;
-    let mut i: usize = width;
-    while 0 < i {
-        i = i - 1;
-        out[i] = low(rest);
-        rest = rest / 16;
+    let mut rest = v;
+    for i in (0..width).rev() {
+        out[i] = digit((rest % 16) as u8);
+        rest /= 16;
     }
 }
 

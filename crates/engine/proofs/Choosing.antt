@@ -1,18 +1,18 @@
 -- The loop of `choose`: what was chosen so far, and what is still to come of the ranks, make the whole choice.
 use Prim.Native.Nat.{ℕ, suc, ◌+◌, ◌-◌, ◌≤◌, ◌<◌, zero-le}
-use mathlib.Core.Path.{◌≡◌, refl, sym, ap, ◌∙◌}
+use mathlib.Core.Path.{◌≡◌, sym, ap, ◌∙◌}
 use mathlib.Core.Bool.{Bool, true, false, cond}
-use mathlib.Core.List.{List, [], ◌∷◌, ◌++◌, append-nil}
-use native.Mathlib.Nat.{le_refl, add-zero, sub-zero, sub_self}
+use mathlib.Core.List.{List, ◌∷◌, ◌++◌}
+use native.Mathlib.Nat.{le_refl, add-zero, sub-zero}
 use native.Mathlib.Numerals.{add-one}
 use native.Mathlib.Omega.{arith}
 use lib.Dec.{ltb}
-use lib.ListN.{length, get_or, take, drop, set, length-set}
-use lib.Seq.{drop-cons, drop-length, take-nil, take-set-le}
+use lib.ListN.{length, get_or, take, drop, set}
+use lib.Seq.{drop-cons, take-set-le}
+use mir.Val.{bool_byte}
 use Rattle.laws.specs.Lists.{filter, at}
-use Rattle.laws.proofs.Filling.{written_next, written-number}
+use Rattle.laws.proofs.Filling.{written_next}
 use Rattle.rules.specs.Slots.{choose}
-use Rattle.engine.specs.Choice.{Chose}
 
 -- the task has left work
 abbrev pub waits : List ℕ → ℕ → Bool
@@ -24,9 +24,7 @@ one_taken e f = rw (e, f)
 
 -- after r ranks were looked at and k tasks chosen
 pub record Going (ranks left before chosen : List ℕ) (k r : ℕ) : Type 0 where
-  pub places : length chosen ≡ length before
   pub few : k ≤ length before
-  pub within : r ≤ length ranks
   pub whole : take k chosen ++ take (length before - k) (filter (waits left) (drop r ranks)) ≡ choose (length before) ranks left
 
 module _ (ranks left before : List ℕ) where
@@ -34,9 +32,7 @@ module _ (ranks left before : List ℕ) where
   unfolding choose
   start =
       record {
-        places = refl;
         few = zero-le;
-        within = zero-le;
         whole = ap (λ (n : ℕ). take n (filter (waits left) ranks)) (sub-zero (length before));
       }
 
@@ -49,29 +45,25 @@ module _ (ranks left before : List ℕ) where
     split = ap (filter (waits left)) (drop-cons ranks r 0 more) ∙ rw add-one
 
     -- the next rank's task is put down, and stays if it has left work
-    pub turn : k < length before → (w : Bool) → waits left (get_or ranks r 0) ≡ w
-        → Going ranks left before (set chosen k (get_or ranks r 0)) (k + cond w 1 0) (r + 1)
+    pub turn : length chosen ≡ length before → k < length before → (w : Bool) → waits left (get_or ranks r 0) ≡ w
+        → Going ranks left before (set chosen k (get_or ranks r 0)) (k + bool_byte w) (r + 1)
     unfolding rest
-    turn room true e =
+    turn places room true e =
         let i = get_or ranks r 0 in
         let room' : k < length chosen = omega arith in
         let fits : length before - k ≡ suc (length before - (k + 1)) = omega arith in
         record {
-          places = length-set chosen k i ∙ g.places;
           few = omega arith;
-          within = omega arith;
           whole =
               written_next chosen k i (take (length before - (k + 1)) rest) room'
               ∙ ap (λ (l : List ℕ). take k chosen ++ l) (sym (one_taken fits (split ∙ rw e)))
               ∙ g.whole;
         }
-    turn room false e =
+    turn places room false e =
         let i = get_or ranks r 0 in
         rw add-zero
         (record {
-          places = length-set chosen k i ∙ g.places;
           few = g.few;
-          within = omega arith;
           whole =
               rw (take-set-le k chosen k i (le_refl k))
               (ap (λ (l : List ℕ). take k chosen ++ take (length before - k) l) (sym (split ∙ rw e)) ∙ g.whole);

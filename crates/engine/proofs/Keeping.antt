@@ -128,9 +128,6 @@ waiting {chosen} {last} {cores} k =
 
 -- after r chosen tasks were looked at, n of which are left over
 pub record Going (chosen last before spare cores others : List ℕ) (n r : ℕ) : Type 0 where
-  pub size : length cores ≡ length before
-  pub places : length others ≡ length spare
-  pub within : r ≤ length chosen
   pub few : n ≤ r
   pub tail : drop n others ≡ drop n spare
   pub kept : keep_cores last (drop r chosen) cores ≡ keep_cores last chosen before
@@ -138,26 +135,19 @@ pub record Going (chosen last before spare cores others : List ℕ) (n r : ℕ) 
 
 module _ (chosen last before spare : List ℕ) where
   pub start : Going chosen last before spare before spare 0 0
-  start = record { size = refl; places = refl; within = zero-le; few = zero-le; tail = refl; kept = refl; whole = refl }
+  start = record { few = zero-le; tail = refl; kept = refl; whole = refl }
 
-  module _ {cores others : List ℕ} {n r : ℕ} (g : Going chosen last before spare cores others n r) (more : r < length chosen) where
-    i : ℕ
-    i = get_or chosen r 0
-
+  module _ {cores others : List ℕ} {n r : ℕ} (g : Going chosen last before spare cores others n r) (more : r < length chosen) {i : ℕ} (is : i ≡ get_or chosen r 0) where
     next : drop r chosen ≡ i ∷ drop (r + 1) chosen
-    unfolding i
-    next = drop-cons chosen r 0 more ∙ rw add-one
+    next = drop-cons chosen r 0 more ∙ rw (add-one, is)
 
     -- the next task's last core is free: the task takes it
-    pub took : {cores' : List ℕ} {k : ℕ} → k ≡ at last (get_or chosen r 0) → free cores k ≡ true → cores' ≡ seat cores k (get_or chosen r 0)
+    pub took : {cores' : List ℕ} {k : ℕ} → k ≡ at last i → free cores k ≡ true → cores' ≡ seat cores k i
         → Going chosen last before spare cores' others n (r + 1)
-    unfolding i seat
+    unfolding seat
     took {k = k} ek ef ec =
         let e : free cores (at last i) ≡ true = rw ek at ef in
         rw (ec, ek) (record {
-          size = length-set cores (at last i - 1) i ∙ g.size;
-          places = g.places;
-          within = omega arith;
           few = omega (arith, g.few);
           tail = g.tail;
           kept = sym (ap (λ (l : List ℕ). keep_cores last l cores) next ∙ keep_takes last (drop (r + 1) chosen) cores i e) ∙ g.kept;
@@ -165,15 +155,11 @@ module _ (chosen last before spare : List ℕ) where
         })
 
     -- it is not: the task is left over
-    pub passed : {k : ℕ} → n < length others → k ≡ at last (get_or chosen r 0) → free cores k ≡ false
-        → Going chosen last before spare cores (set others n (get_or chosen r 0)) (n + 1) (r + 1)
-    unfolding i
+    pub passed : {k : ℕ} → n < length others → k ≡ at last i → free cores k ≡ false
+        → Going chosen last before spare cores (set others n i) (n + 1) (r + 1)
     passed room ek ef =
         let e : free cores (at last i) ≡ false = rw ek at ef in
         record {
-          size = g.size;
-          places = length-set others n i ∙ g.places;
-          within = omega arith;
           few = omega (arith, g.few);
           tail = written-rest others n i spare g.tail;
           kept = sym (ap (λ (l : List ℕ). keep_cores last l cores) next ∙ keep_passes last (drop (r + 1) chosen) cores i e) ∙ g.kept;
@@ -184,10 +170,10 @@ module _ (chosen last before spare : List ℕ) where
         }
 
   -- no task is to be looked at any more
-  pub ended : {cores others : List ℕ} {n r : ℕ} → Keeping chosen last before spare → Going chosen last before spare cores others n r → length chosen ≤ r
+  pub ended : {cores others : List ℕ} {n r : ℕ} → Keeping chosen last before spare → Going chosen last before spare cores others n r → n ≤ length others → length chosen ≤ r
       → Kept chosen last before spare cores others n
   unfolding left_over keep_cores
-  ended {cores} {others} {n} {r} k g done =
+  ended {cores} {others} {n} {r} k g fits done =
       let none : drop r chosen ≡ [] = drop_of_length-le chosen done in
       let all-kept : cores ≡ keep_cores last chosen before = ap (λ (l : List ℕ). keep_cores last l cores) (sym none) ∙ g.kept in
       let lefts : take n others ≡ unplaced cores chosen =
@@ -198,6 +184,6 @@ module _ (chosen last before spare : List ℕ) where
       ∙ ap (λ (l : List ℕ). unplaced l chosen) (sym all-kept) in
       record {
         kept = all-kept;
-        number = written-number others n (omega (arith, g.places, g.few, g.within, k.room)) lefts;
+        number = written-number others n fits lefts;
         entries = written_list_lem others n spare lefts g.tail;
       }

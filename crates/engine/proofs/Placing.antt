@@ -5,16 +5,16 @@ use mathlib.Core.Bool.{Bool, not}
 use mathlib.Core.List.{List, ◌++◌}
 use native.Mathlib.Omega.{arith}
 use lib.Dec.{eqb}
-use lib.ListN.{length, get_or, take, drop, replicate, length-replicate, length-take}
+use lib.ListN.{length, get_or, take, drop, replicate, length-replicate}
 use Rattle.laws.specs.Lists.{filter, position}
-use Rattle.laws.proofs.Filling.{front-taken, front_fits, at_pred}
+use Rattle.laws.proofs.Filling.{front-taken, at_pred}
 use Rattle.laws.proofs.Positions.{StandsAt, position_stands, count-filter-le}
 use Rattle.laws.proofs.Sorted.{stands_get_or}
 use Rattle.rules.specs.Slots.{place, keep_cores, placed}
 use Rattle.slot_laws.proofs.Choosing.{Choice}
 use Rattle.slot_laws.proofs.Placing.{keep_length, others-room, kept_or_other}
 use Rattle.engine.specs.Choice.{Named}
-use Rattle.engine.specs.Placing.{Idle, Placing, Keeping, Kept, unplaced, Filling, Filled, Placed}
+use Rattle.engine.specs.Placing.{Idle, Placing, Kept, unplaced, Filling, Filled, Placed}
 use Rattle.engine.proofs.Remembering.{kept-seated}
 
 -- a part of tasks are tasks

@@ -1,25 +1,22 @@
 -- The loop of `fill`: the lowest free core is never before the one that was looked at last.
-use Prim.Native.Nat.{ℕ, suc, ◌+◌, ◌≤◌, ◌<◌, zero-le}
+use Prim.Native.Nat.{ℕ, suc, ◌+◌, ◌≤◌, ◌<◌}
 use mathlib.Core.Path.{◌≡◌, refl, sym, ap, ◌∙◌}
-use mathlib.Core.Bool.{true, false, cond}
-use mathlib.Core.Logic.{⊎_elim}
+use mathlib.Core.Bool.{cond}
 use mathlib.Core.List.{List, [], ◌∷◌, ◌++◌}
 use native.Mathlib.Numerals.{add-one, sub-one}
 use native.Mathlib.Omega.{arith}
-use borrow.Author.Tests.{ltb-true, ltb-false}
-use lib.Dec.{eqb, ltb}
-use lib.ListN.{length, get_or, take, drop, set, length-set, drop_of_length-le}
+use lib.Dec.{eqb}
+use lib.ListN.{length, get_or, take, drop, set, drop_of_length-le}
 use lib.Seq.{drop-cons, take_all, take-suc, take-suc-set}
 use Rattle.laws.specs.Lists.{count, at, position}
-use Rattle.laws.proofs.Tests.{decide}
 use Rattle.laws.proofs.Positions.{hit_le, hit_other, hit_same, count-append, count_set, position_first}
 use Rattle.rules.specs.Slots.{fill_cores, seat}
 use Rattle.engine.specs.Placing.{moves_to, Remembered, Seated, Filling, Filled}
-use Rattle.engine.proofs.Remembering.{seated-size, seat-next}
+use Rattle.engine.proofs.Remembering.{seat-next}
 
 -- after j of the others have a core; none of the first k cores is free
 pub record Going (others last before last' cores : List ℕ) (moves j k : ℕ) : Type 0 where
-  pub size : length cores ≡ length before
+  pub within : j ≤ length others
   pub passed : count (eqb 0) (take k cores) ≡ 0
   pub room : length others ≤ j + count (eqb 0) cores
   pub whole : fill_cores (drop j others) cores ≡ fill_cores others before
@@ -42,17 +39,14 @@ one_more_passed k v l m e none busy =
 
 module _ {others last before : List ℕ} (f : Filling others last before) where
   module _ {last' cores : List ℕ} {moves j k : ℕ} (g : Going others last before last' cores moves j k) where
-    -- a free core is still to come, as long as a task is
-    pub more_cores : j < length others → k < length cores
-    more_cores more =
-        ⊎_elim (λ (e : ltb k (length cores) ≡ true). ltb-true k (length cores) e)
-        (λ (e : ltb k (length cores) ≡ false).
-        let none : count (eqb 0) cores ≡ 0 = ap (count (eqb 0)) (sym (take_all k cores (ltb-false k (length cores) e))) ∙ g.passed in
-        absurd (omega (arith, g.room)))
-        (decide (ltb k (length cores)))
+    -- there is a free core for each task, so past the last core no task is to be placed
+    pub all_seated : length cores ≤ k → length others ≤ j
+    all_seated past =
+        let none : count (eqb 0) cores ≡ 0 = ap (count (eqb 0)) (sym (take_all k cores past)) ∙ g.passed in
+        omega (arith, g.room)
 
     -- the next core is free: the next task takes it
-    module _ (more : j < length others) where
+    module _ (more : j < length others) (inside : k < length cores) where
       abbrev task : ℕ
       task = get_or others j 0
 
@@ -68,9 +62,8 @@ module _ {others last before : List ℕ} (f : Filling others last before) where
       pub took : get_or cores k 0 ≡ 0 → {last'' : List ℕ} {v : ℕ} → Remembered task (k + 1) last' last'' v
           → Going others last before last'' (set cores k task) (moves + v) (j + 1) (k + 1)
       took idle h =
-          let inside : k < length cores = more_cores more in
           record {
-            size = length-set cores k task ∙ g.size;
+            within = omega arith;
             passed = one_more_passed k task cores (set cores k task) (take-suc-set cores k task inside) g.passed (λ e. omega (arith, low));
             room = omega (arith, g.room, count_set (eqb 0) cores k task 0 inside, hit_other {x = 0} {y = task} (λ e. omega (arith, low)), hit_same (sym idle));
             whole =
@@ -90,7 +83,7 @@ module _ {others last before : List ℕ} (f : Filling others last before) where
     pub passed_one : k < length cores → (get_or cores k 0 ≡ 0 → ⊥) → Going others last before last' cores moves j (k + 1)
     passed_one more busy =
         record {
-          size = g.size;
+          within = g.within;
           passed = one_more_passed k (get_or cores k 0) cores cores (take-suc cores k 0 more) g.passed (λ e. busy (sym e));
           room = g.room;
           whole = g.whole;

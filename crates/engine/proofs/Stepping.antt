@@ -8,7 +8,7 @@ use native.Mathlib.Nat.{le_trans, not-suc-le-zero, eq-or-lt_of_le}
 use native.Mathlib.Decide.{dec_le}
 use native.Mathlib.Omega.{arith}
 use lib.Dec.{eqb, ltb}
-use lib.ListN.{length, get_or, take, length-append, get_or-eq_default}
+use lib.ListN.{length, get_or, take, get_or-eq_default}
 use lib.Seq.{take-append-le}
 use Rattle.laws.specs.Lists.{count, numbers, each, at, position}
 use Rattle.laws.proofs.Each.{length-each, at_each, each_cong}

@@ -1,5 +1,5 @@
 // Of the tasks with left work the first m in priority order are chosen, or all if fewer.
-ghost use Rattle.std.specs.Prelude.{◌≡◌, cond, ◌≤◌, length, ltb};
+ghost use Rattle.std.specs.Prelude.{◌≡◌, ◌≤◌, length, ltb};
 ghost use Rattle.laws.specs.Lists.{at};
 ghost use Rattle.engine.specs.Choice.{Named, Chose};
 
@@ -7,13 +7,7 @@ fn pending(left: &[u32], i: u8) -> bool
     requires { (1 ≤ i) × (i ≤ length left.now) }
     ensures { result ≡ ltb 0 (at left.now i) }
 {
-    0 < left[(i - 1) as usize]
-}
-
-fn one(waits: bool) -> usize
-    ensures { result ≡ cond waits 1 0 }
-{
-    if waits { 1 } else { 0 }
+    0 < left[usize::from(i - 1)]
 }
 
 // As many as `chosen` has places: the first of them are filled, and their number is returned. Each task is put down and stays if
@@ -23,16 +17,12 @@ pub fn choose(ranks: &[u8], left: &[u32], chosen: &mut [u8]) -> usize
     ensures { Chose ranks.now left.now chosen.old chosen.new result }
 {
     let mut k = 0;
-    let mut r = 0;
-    while r < ranks.len() {
+    for &i in ranks {
         if k == chosen.len() {
             return k;
         }
-        let i = ranks[r];
-        let waits = pending(left, i);
         chosen[k] = i;
-        k += one(waits);
-        r += 1;
+        k += usize::from(pending(left, i));
     }
     k
 }

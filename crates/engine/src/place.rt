@@ -1,6 +1,6 @@
 // Placing: in priority order, each chosen task whose last core is free takes it; then, in priority order, each other takes the
 // lowest free core. Cores are counted from 1; the entry of `cores` for core k is at k - 1, and 0 where the core is idle.
-ghost use Rattle.std.specs.Prelude.{◌≡◌, ◌≤◌, length, cond};
+ghost use Rattle.std.specs.Prelude.{◌≡◌, ◌≤◌, length};
 ghost use Rattle.laws.specs.Lists.{at};
 ghost use Rattle.rules.specs.Slots.{free, seat};
 ghost use Rattle.engine.specs.Placing.{moves_to, Remembered, Idle, Placing, Keeping, Kept, Filling, Filled, Placed};
@@ -13,25 +13,23 @@ fn last_core(last: &[u8], i: u8) -> u8
     requires { (1 ≤ i) × (i ≤ length last.now) }
     ensures { result ≡ at last.now i }
 {
-    last[(i - 1) as usize]
+    last[usize::from(i - 1)]
 }
 
+#[tactic(auto, unfolding(rules::specs::Slots::free))]
 fn is_free(cores: &[u8], k: u8) -> bool
     requires { k ≤ length cores.now }
     ensures { result ≡ free cores.now k }
 {
-    if k == 0 {
-        false
-    } else {
-        cores[(k - 1) as usize] == 0
-    }
+    0 < k && cores[usize::from(k - 1)] == 0
 }
 
+#[tactic(auto, unfolding(rules::specs::Slots::seat))]
 fn take_core(cores: &mut [u8], k: u8, i: u8)
     requires { (1 ≤ k) × (k ≤ length cores.old) }
     ensures { cores.new ≡ seat cores.old k i }
 {
-    cores[(k - 1) as usize] = i;
+    cores[usize::from(k - 1)] = i;
 }
 
 // Each chosen task whose last core is free takes it. The others are put into `others`, and their number is returned. The same walk
@@ -48,9 +46,7 @@ fn keep(
     ensures { Kept chosen.now last.now cores.old others.old cores.new others.new result × Worked chosen.now left.old done.old left.new done.new }
 {
     let mut n = 0;
-    let mut r = 0;
-    while r < chosen.len() {
-        let i = chosen[r];
+    for &i in chosen {
         let k = last_core(last, i);
         serve(i, left, done);
         if is_free(cores, k) {
@@ -59,19 +55,15 @@ fn keep(
             others[n] = i;
             n += 1;
         }
-        r += 1;
     }
     n
 }
 
-// 1 where the task ran before, on another core: a first run is no move.
-fn move_to(core: u8, last: u8) -> u32
-    ensures { result ≡ cond (moves_to core last) 1 0 }
+// The task ran before, on another core: a first run is no move.
+fn moves_to(core: u8, last: u8) -> bool
+    ensures { result ≡ moves_to core last }
 {
-    if core == last {
-        return 0;
-    }
-    if last == 0 { 0 } else { 1 }
+    0 < last && core != last
 }
 
 // Task i remembers the core that it takes. Its move is returned.
@@ -79,29 +71,30 @@ fn remember(last: &mut [u8], i: u8, core: u8) -> u32
     requires { (1 ≤ i) × (i ≤ length last.old) }
     ensures { Remembered i core last.old last.new result }
 {
-    let j = (i - 1) as usize;
+    let j = usize::from(i - 1);
     let before = last[j];
     last[j] = core;
-    move_to(core, before)
+    u32::from(moves_to(core, before))
 }
 
-// Each of the others takes the lowest free core. No core before `k` is free any more, so the search never goes back. The number of
-// moves is returned.
+// Each of the others takes the lowest free core: a core that was passed is not free any more. The number of moves is returned.
+// One walk: a search for the next free core in a walk along the others is made a call by the compiler, and that costs more.
 fn fill(others: &[u8], last: &mut [u8], cores: &mut [u8]) -> u32
     requires { Filling others.now last.old cores.old }
     ensures { Filled others.now last.old cores.old last.new cores.new result }
 {
     let mut moves = 0;
     let mut j = 0;
-    let mut k = 0;
-    while j < others.len() {
+    for k in 0..cores.len() {
+        if j == others.len() {
+            return moves;
+        }
         if cores[k] == 0 {
             let i = others[j];
             cores[k] = i;
             moves += remember(last, i, (k + 1) as u8);
             j += 1;
         }
-        k += 1;
     }
     moves
 }

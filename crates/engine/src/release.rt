@@ -3,11 +3,11 @@
 ghost use Rattle.std.specs.Prelude.{◌≡◌, cond, length, eqb};
 ghost use Rattle.engine.specs.Step.{released_on};
 
-// The left work of one task: C where its phase is 0, else what was left.
-fn released(phase: u32, c: u32, left: u32) -> u32
-    ensures { result ≡ cond (eqb phase 0) c left }
+// Of two values for a task the one for a slot in which it releases, that is at phase 0, or the one for any other slot.
+pub(crate) fn at_release(phase: u32, released: u32, other: u32) -> u32
+    ensures { result ≡ cond (eqb phase 0) released other }
 {
-    if phase == 0 { c } else { left }
+    if phase == 0 { released } else { other }
 }
 
 // `phase` has, for each task, the slots since its last release; 0 where it releases now.
@@ -15,9 +15,7 @@ pub fn release(left: &mut [u32], phase: &[u32], c: &[u32])
     requires { (length phase.now ≡ length left.old) × (length c.now ≡ length left.old) }
     ensures { left.new ≡ released_on c.now phase.now left.old }
 {
-    let mut i = 0;
-    while i < left.len() {
-        left[i] = released(phase[i], c[i], left[i]);
-        i += 1;
+    for (i, units) in left.iter_mut().enumerate() {
+        *units = at_release(phase[i], c[i], *units);
     }
 }

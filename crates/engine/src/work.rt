@@ -6,7 +6,7 @@ pub fn serve(i: u8, left: &mut [u32], done: &mut [u32])
     requires { Waiting i left.old done.old }
     ensures { Served i left.old done.old left.new done.new }
 {
-    let j = (i - 1) as usize;
-    left[j] = left[j] - 1;
-    done[j] = done[j] + 1;
+    let j = usize::from(i - 1);
+    left[j] -= 1;
+    done[j] += 1;
 }

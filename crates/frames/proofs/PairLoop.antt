@@ -1,7 +1,7 @@
 -- The loop of `write_pairs`: after i values their digits stand at the front of the buffer.
-use Prim.Native.Nat.{ℕ, ◌+◌, ◌*◌, ◌/◌, ◌%◌, ◌≤◌, ◌<◌, zero-le}
+use Prim.Native.Nat.{ℕ, ◌+◌, ◌*◌, ◌/◌, ◌%◌, ◌≤◌, ◌<◌}
 use mathlib.Core.Path.{◌≡◌, refl, sym, ap, ◌∙◌}
-use mathlib.Core.List.{List, [], ◌∷◌, ◌++◌, append_assoc, append-nil}
+use mathlib.Core.List.{List, [], ◌∷◌, ◌++◌, append_assoc}
 use native.Mathlib.Nat.{mod-eq_of_lt}
 use native.Mathlib.Numerals.{add-one}
 use native.Mathlib.Omega.{arith}
@@ -19,31 +19,26 @@ unfolding pairs fields
 length_pairs [] = refl
 length_pairs (v ∷ vs) = length-append (field 2 v) (pairs vs) ∙ omega (arith, length-field 2 v, length_pairs vs)
 
-pub pairs-append : (us vs : List ℕ) → pairs (us ++ vs) ≡ pairs us ++ pairs vs
+pairs-append : (us vs : List ℕ) → pairs (us ++ vs) ≡ pairs us ++ pairs vs
 unfolding pairs fields
 pairs-append [] vs = refl
 pairs-append (u ∷ us) vs = ap (λ (l : List ℕ). field 2 u ++ l) (pairs-append us vs) ∙ sym (append_assoc (field 2 u) (pairs us) (pairs vs))
 
-pub field_two : (v : ℕ) → v < 256 → field 2 v ≡ digit (v / 16) ∷ digit (v % 16) ∷ []
-unfolding field
-field_two v h =
+two_digits : (v : ℕ) → v < 256 → pairs (v ∷ []) ≡ digit (v / 16) ∷ digit (v % 16) ∷ []
+unfolding pairs fields field
+two_digits v h =
     let high : v / 16 % 16 ≡ v / 16 = mod-eq_of_lt (omega arith) in
     ap (λ (d : ℕ). digit d ∷ digit (v % 16) ∷ []) high
 
-pub two_digits : (v : ℕ) → v < 256 → pairs (v ∷ []) ≡ digit (v / 16) ∷ digit (v % 16) ∷ []
-unfolding pairs fields
-two_digits v h = append-nil (field 2 v) ∙ field_two v h
-
 -- after i values
 pub record Going (out values out' : List ℕ) (i : ℕ) : Type 0 where
-  pub within : i ≤ length values
   pub long : length out' ≡ length out
   pub laid : out' ≡ lay out 0 (pairs (take i values))
 
 module _ (out values : List ℕ) (room : 2 * length values ≤ length out) where
   pub start : Going out values out 0
   unfolding lay pairs fields
-  start = record { within = zero-le; long = refl; laid = refl }
+  start = record { long = refl; laid = refl }
 
   pub turn : {out' : List ℕ} {i : ℕ} → Going out values out' i → i < length values → get_or values i 0 < 256
       → Going out values (set (set out' (2 * i) (digit (get_or values i 0 / 16))) (2 * i + 1) (digit (get_or values i 0 % 16))) (i + 1)
@@ -62,7 +57,6 @@ module _ (out values : List ℕ) (room : 2 * length values ≤ length out) where
       ∙ ap pairs (sym (take-suc values i 0 more) ∙ ap (λ (n : ℕ). take n values) (sym (add-one i)))
       in
       record {
-        within = omega arith;
         long = length-set (set out' (2 * i) (digit (v / 16))) (2 * i + 1) (digit (v % 16)) ∙ length-set out' (2 * i) (digit (v / 16)) ∙ g.long;
         laid = low ∙ ap (lay out 0) whole;
       }

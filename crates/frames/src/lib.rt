@@ -5,3 +5,4 @@ pub mod names;
 pub mod pairs;
 pub mod refusal;
 pub mod slot;
+pub mod start;

@@ -5,28 +5,31 @@ ghost use Rattle.laws.specs.Digits.{field};
 ghost use Rattle.rules.specs.Answers.{lay};
 ghost use Rattle.frames.specs.Pairs.{names as every_byte};
 
-pub fn names() -> [u8; 512]
-    ensures { result ≡ every_byte }
-{
-    let mut out = [0u8; 512];
-    let mut i = 0;
-    while i < 256 {
-        let at = 2 * i;
-        out[at] = digits::digit((i / 16) as u8);
-        out[at + 1] = digits::digit((i % 16) as u8);
-        i += 1;
-    }
-    out
+use crate::pairs::write_pairs;
+
+#[derive(Drop)]
+pub struct Names {
+    pub bytes: [u8; 512],
+    pub ghost are: { bytes ≡ every_byte },
 }
 
-// The two bytes from a place on become the last two digits of v; no other byte differs.
-pub fn write_name(out: &mut [u8], at: usize, names: &[u8], v: u32)
-    requires { (at + 2 ≤ length out.old) × (names.now ≡ every_byte) }
-    ensures { out.new ≡ lay out.old at (field 2 v) }
-{
-    let from = 2 * ((v % 256) as usize);
-    let high = names[from];
-    let low = names[from + 1];
-    out[at] = high;
-    out[at + 1] = low;
+impl Names {
+    pub fn new() -> Names
+        ensures { result.bytes ≡ every_byte }
+    {
+        let mut bytes = [0u8; 512];
+        let every: [u8; 256] = std::array::from_fn(|i| i as u8);
+        write_pairs(&mut bytes, &every);
+        Names { bytes }
+    }
+
+    // The two bytes from a place on become the last two digits of v; no other byte differs.
+    pub fn write(&self, out: &mut [u8], at: usize, v: u32)
+        requires { at + 2 ≤ length out.old }
+        ensures { out.new ≡ lay out.old at (field 2 v) }
+    {
+        let from = 2 * (v % 256) as usize;
+        out[at] = self.bytes[from];
+        out[at + 1] = self.bytes[from + 1];
+    }
 }

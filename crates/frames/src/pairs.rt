@@ -7,12 +7,9 @@ pub fn write_pairs(out: &mut [u8], values: &[u8])
     requires { 2 * length values.now ≤ length out.old }
     ensures { out.new ≡ pairs values.now ++ drop (2 * length values.now) out.old }
 {
-    let mut i = 0;
-    while i < values.len() {
-        let v = values[i];
+    for (i, v) in values.iter().enumerate() {
         let at = 2 * i;
         out[at] = digits::digit(v / 16);
         out[at + 1] = digits::digit(v % 16);
-        i += 1;
     }
 }

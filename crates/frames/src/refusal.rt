@@ -1,12 +1,18 @@
-// Frame `1f`: refusal, line. Its eight digits are one number.
-ghost use Rattle.std.specs.Prelude.{◌≡◌, ◌++◌, ◌∷◌, [], ◌≤◌, ◌<◌, length, drop};
+// Frame `1f`: refusal, line.
+ghost use Rattle.std.specs.Prelude.{◌≡◌, ◌++◌, ◌∷◌, [], ◌≤◌, length, drop};
+ghost use Rattle.rules.specs.Refusals.{number_of};
 ghost use Rattle.rules.specs.Frames.{refusal, frame};
 
-pub fn write_refusal(out: &mut [u8], number: u8, line: u32)
-    requires { (9 ≤ length out.old) × (line < 65536) }
-    ensures { out.new ≡ frame refusal (number ∷ line ∷ []) ++ drop 9 out.old }
+use crate::start::write_type;
+use rules::frame_type::FrameType;
+use rules::refusal::Refusal;
+
+pub fn write_refusal(out: &mut [u8], r: Refusal, line: u32)
+    requires { 9 ≤ length out.old }
+    ensures { out.new ≡ frame refusal (number_of r ∷ line ∷ []) ++ drop 9 out.old }
 {
-    let head = 0x1f * 256 + number as u64;
-    digits::write_field(out, 0, 8, head * 65536 + line as u64);
-    out[8] = 10;
+    write_type(out, FrameType::Refusal);
+    digits::write_field(out, 2, 2, u64::from(u8::from(r)));
+    digits::write_field(out, 4, 4, u64::from(line));
+    out[8] = b'\n';
 }

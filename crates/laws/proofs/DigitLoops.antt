@@ -1,14 +1,14 @@
 -- Digits read and written one at a time: what one more digit does to a number that is read from the front, and to a field
 -- that is written from the back.
-use Prim.Native.Nat.{ℕ, suc, ◌+◌, ◌-◌, ◌*◌, ◌^◌, ◌≤◌, ◌<◌, zero-le}
+use Prim.Native.Nat.{ℕ, ◌+◌, ◌*◌, ◌^◌, ◌≤◌, ◌<◌}
 use mathlib.Core.Path.{◌≡◌, refl, sym, ap, ◌∙◌}
 use mathlib.Core.List.{List, ◌∷◌}
 use mathlib.Core.Option.{none, some}
-use native.Mathlib.Nat.{add-zero, sub-zero, pow-suc, lt_of_lt_of_le, pow-le-pow_right}
+use native.Mathlib.Nat.{pow-suc, lt_of_lt_of_le, pow-le-pow_right}
 use native.Mathlib.Numerals.{add-one}
 use native.Mathlib.Omega.{arith}
 use lib.Dec.{lit<}
-use lib.ListN.{length, get_or, take, drop}
+use lib.ListN.{length, get_or, drop, drop_of_length-le}
 use lib.Seq.{drop-cons}
 use Rattle.laws.specs.Digits.{digit, digit_value, field, value_after, value}
 use Rattle.laws.proofs.Digits.{digit_value_some}
@@ -35,50 +35,41 @@ below_more i h k = rw (add-one i, pow-suc 16 i) (omega arith)
 below_fits : (i : ℕ) {v : ℕ} → i ≤ 16 → v < 16 ^ i → v < 2 ^ 64
 below_fits i h k = lt_of_lt_of_le k (pow-le-pow_right {n = 16} (lit< tt) h)
 
--- i digits of a field have been read, and stand for v
-pub record Reading (s : List ℕ) (from width v i : ℕ) : Type 0 where
-  pub within : i ≤ width
+-- i digits of a stretch have been read, and stand for v
+pub record Reading (bs : List ℕ) (v i : ℕ) : Type 0 where
   pub below : v < 16 ^ i
-  pub same : value_after v (take (width - i) (drop (from + i) s)) ≡ value (take width (drop from s))
+  pub same : value_after v (drop i bs) ≡ value bs
 
-module _ (s : List ℕ) (from width : ℕ) where
+module _ (bs : List ℕ) where
   -- nothing is read yet
-  pub reading_starts : Reading s from width 0 0
+  pub reading_starts : Reading bs 0 0
   unfolding value
-  reading_starts = record { within = zero-le; below = lit< tt; same = rw (sub-zero width, add-zero from) }
+  reading_starts = record { below = lit< tt; same = refl }
 
-  module _ (v i : ℕ) (r : Reading s from width v i) (h : i < width) (fits : from + width ≤ length s) where
-    next : take (width - i) (drop (from + i) s) ≡ get_or s (from + i) 0 ∷ take (width - (i + 1)) (drop (from + (i + 1)) s)
-    next =
-        let e : width - i ≡ suc (width - (i + 1)) = omega arith in
-        let f : suc (from + i) ≡ from + (i + 1) = omega arith in
-        rw (e, drop-cons s (from + i) 0 (omega arith), f)
+  module _ (v i : ℕ) (r : Reading bs v i) (h : i < length bs) where
+    next : drop i bs ≡ get_or bs i 0 ∷ drop (i + 1) bs
+    next = rw add-one (drop-cons bs i 0 h)
 
     -- one more digit is read
-    pub reading_goes_on : {d : ℕ} → digit_value (get_or s (from + i) 0) ≡ some d → Reading s from width (v * 16 + d) (i + 1)
+    pub reading_goes_on : {d : ℕ} → digit_value (get_or bs i 0) ≡ some d → Reading bs (v * 16 + d) (i + 1)
     reading_goes_on {d} e =
         record {
-          within = omega arith;
-          below = below_more i r.below (digit_value_some (get_or s (from + i) 0) d e).0;
-          same =
-              sym (ap (value_after v) next ∙ value-digit v (get_or s (from + i) 0) (take (width - (i + 1)) (drop (from + (i + 1)) s)) e) ∙ r.same;
+          below = below_more i r.below (digit_value_some (get_or bs i 0) d e).0;
+          same = sym (ap (value_after v) next ∙ value-digit v (get_or bs i 0) (drop (i + 1) bs) e) ∙ r.same;
         }
 
-    -- a byte that is no digit ends it, and the field stands for nothing
-    pub reading_breaks_off : digit_value (get_or s (from + i) 0) ≡ none → value (take width (drop from s)) ≡ none
-    reading_breaks_off e =
-        sym r.same ∙ ap (value_after v) next ∙ value_stray v (get_or s (from + i) 0) (take (width - (i + 1)) (drop (from + (i + 1)) s)) e
+    -- a byte that is no digit ends it, and the stretch stands for nothing
+    pub reading_breaks_off : digit_value (get_or bs i 0) ≡ none → value bs ≡ none
+    reading_breaks_off e = sym r.same ∙ ap (value_after v) next ∙ value_stray v (get_or bs i 0) (drop (i + 1) bs) e
 
     -- the number fits 64 bits after one more digit
-    pub reading_fits : width ≤ 16 → {d : ℕ} → d < 16 → v * 16 + d < 2 ^ 64
+    pub reading_fits : length bs ≤ 16 → {d : ℕ} → d < 16 → v * 16 + d < 2 ^ 64
     reading_fits small k = below_fits (i + 1) (omega arith) (below_more i r.below k)
 
-  -- all digits are read, and the field stands for v
-  pub reading_ends : (v i : ℕ) → Reading s from width v i → width ≤ i → value (take width (drop from s)) ≡ some v
+  -- all digits are read, and the stretch stands for v
+  pub reading_ends : (v i : ℕ) → Reading bs v i → length bs ≤ i → value bs ≡ some v
   unfolding value_after
-  reading_ends v i r h =
-      let e : width - i ≡ 0 = omega arith in
-      sym r.same ∙ rw e
+  reading_ends v i r h = sym r.same ∙ rw (drop_of_length-le bs h)
 
 -- ---- a field written from the back
 

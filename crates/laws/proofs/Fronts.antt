@@ -1,6 +1,6 @@
 -- Lists kept at the front of a longer list that is filled up with one value: what is put there is found there again; and a
 -- walk that puts f 1, f 2, .. there.
-use Prim.Native.Nat.{ℕ, zero, suc, ◌+◌, ◌-◌, ◌≤◌, ◌<◌, zero-le}
+use Prim.Native.Nat.{ℕ, zero, suc, ◌+◌, ◌-◌, ◌≤◌, ◌<◌}
 use mathlib.Core.Path.{◌≡◌, refl, sym, ap, ◌∙◌}
 use mathlib.Core.List.{List, [], ◌∷◌, ◌++◌, map, map-map, map-append}
 use native.Mathlib.Omega.{arith}

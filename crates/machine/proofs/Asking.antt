@@ -1,4 +1,5 @@
 -- What is asked of a struct: the first test is that it is well formed.
+use Rattle.std.proofs.Common.{Err}
 use Prim.Native.Nat.{ℕ}
 use mathlib.Core.Path.{◌≡◌, refl, sym, ap, ◌∙◌, subst}
 use mathlib.Core.Bool.{Bool, true, false, cond, not, ◌&&◌}
@@ -12,7 +13,6 @@ use Rattle.rules.specs.Forms.{well_formed}
 use Rattle.rules.specs.Answers.{lay, room_test, state_test}
 use Rattle.rules.specs.declared.refusal.Refusal.TheVariants.{BadState}
 use Rattle.tables.specs.Writes.{made, wrote, wrote_text}
-use Rattle.tables.specs.declared.write.WriteAnswer.TheVariants.{Refused}
 use Rattle.machine.specs.declared.state.State.{State}
 use Rattle.machine.specs.Views.{view, padded, formed}
 use Rattle.machine.specs.Answers.{asked}
@@ -60,7 +60,7 @@ module _ (s : State) (text : States.State → List ℕ) (out : List ℕ) (place 
   written = asked s (λ st. settle (state_test st ∷ tests st) (filled st))
 
   -- nothing is written for a struct that is not well formed
-  pub text_ill : (n : ℕ) → formed s ≡ false → made (Refused BadState) out ≡ wrote n out written
+  pub text_ill : (n : ℕ) → formed s ≡ false → made (Err BadState) out ≡ wrote n out written
   unfolding wrote
   text_ill n e = sym (ap (wrote n out) (asked_ill s tests filled e))
 

@@ -1,11 +1,11 @@
 -- The form of a struct, conjunct by conjunct.
-use Prim.Native.Nat.{◌+◌, ◌*◌, ◌≤◌, ◌<◌}
+use Prim.Native.Nat.{◌+◌, ◌*◌, ◌≤◌}
 use mathlib.Core.Path.{◌≡◌, refl, subst, ◌∙◌}
 use mathlib.Core.Bool.{Bool, true, false, ◌&&◌}
 use native.Mathlib.Omega.{arith}
-use lib.Dec.{T, leb, leb→le}
+use lib.Dec.{T, leb}
 use lib.ListN.{get_or}
-use borrow.Author.Tests.{eq-eqb, le-leb}
+use borrow.Author.Tests.{eq-eqb}
 use Rattle.laws.specs.Lists.{all, numbers, same}
 use Rattle.laws.proofs.Tests.{to_T, and_left, and_right}
 use Rattle.rules.specs.Limits.{tasks_max, clock_max}
@@ -45,13 +45,6 @@ module _ (s : State) (full : Full s) where
   unfolding formed well_formed view
   not_accepted e = never (formed s) (λ t. subst T e (search (and_left, and_right) depth 9))
 
-  pub too_late : clock_max < s.clock.0 → false ≡ formed s
-  unfolding formed well_formed view
-  too_late h =
-      never (formed s) (λ t.
-      let late : T (leb s.clock.0 clock_max) = search (and_left, and_right) in
-      omega (arith, leb→le s.clock.0 clock_max late))
-
   module _ (few : tasks s ≤ tasks_max) where
     -- the table's order, as an array, says the order
     order_there : viewed (λ x. x.0) (tasks s) (packed task_number (order (Tables.view s.table))) ≡ order (Tables.view s.table)
@@ -59,17 +52,9 @@ module _ (s : State) (full : Full s) where
         viewed-packed task_number (λ x. x.0) (λ v. refl) (order (Tables.view s.table)) (tasks s)
         (order-length (Tables.view s.table) ∙ size-view s.table full.rows few)
 
-    pub not_ranked : held s ≡ false → false ≡ formed s
-    unfolding formed well_formed view
-    not_ranked e = never (formed s) (λ t. subst T (rw order_there at e) (search (and_left, and_right) depth 9))
-
     all-tasks : all (task_formed (view s)) (numbers (size (view s).table)) ≡ fit s
     unfolding view
     all-tasks = rw (size-view s.table full.rows few)
-
-    pub not_fit : fit s ≡ false → false ≡ formed s
-    unfolding formed well_formed
-    not_fit e = never (formed s) (λ t. subst T (all-tasks ∙ e) (search (and_left, and_right)))
 
     one_each : sized (view s) ≡ true
     unfolding sized view
@@ -83,11 +68,11 @@ module _ (s : State) (full : Full s) where
           eq-eqb (tasks s) (tasks s) refl,
         )
 
-    -- where all else holds, what is left are the bounds of moves and misses
-    pub rest : padded s ≡ true → accepts (Tables.view s.table) ≡ true → s.clock.0 ≤ clock_max → held s ≡ true → fit s ≡ true
-        → leb s.moves (s.table.m.0 * s.clock.0) && leb s.misses (tasks_max * s.clock.0) ≡ formed s
+    -- where the struct is padded and its table accepted, these four are left
+    pub form_left : padded s ≡ true → accepts (Tables.view s.table) ≡ true
+        → formed s ≡ (held s && leb s.clock.0 clock_max && fit s && leb s.moves (s.table.m.0 * s.clock.0) && leb s.misses (tasks_max * s.clock.0))
     unfolding formed well_formed view Tables.view
-    rest p a c h f = rw (p, a, one_each, rw order_there at h, le-leb s.clock.0 clock_max c, all-tasks, f)
+    form_left p a = rw (p, a, one_each, order_there, all-tasks)
 
   -- what the tests of the tasks ask
   pub ready : tasks s ≤ tasks_max → accepts (Tables.view s.table) ≡ true → s.clock.0 ≤ clock_max → Ready s

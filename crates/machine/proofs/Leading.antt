@@ -1,16 +1,12 @@
--- The lead: a difference of two small numbers, and why they are small.
-use Prim.Native.Nat.{ℕ, zero, suc, ◌+◌, ◌-◌, ◌*◌, ◌/◌, ◌^◌, ◌≤◌, ◌<◌}
+-- The lead: a difference of two numbers, and why they are small.
+use Rattle.std.proofs.Common.{Ok, Err}
+use Prim.Native.Nat.{ℕ, ◌+◌, ◌-◌, ◌*◌, ◌/◌, ◌^◌, ◌≤◌, ◌<◌}
 use mathlib.Core.Path.{◌≡◌, refl, sym, ap, ◌∙◌}
-use mathlib.Core.Bool.{Bool, true, false, cond}
+use mathlib.Core.Bool.{true, false}
 use mathlib.Core.List.{List, [], ◌∷◌}
 use native.Mathlib.Nat.{mul-le-mul, mul-le-mul_left, mul-le-mul_right, div-mul-le_self}
 use native.Mathlib.Omega.{arith}
-use lib.Dec.{ltb}
-use lib.IntN.{ℤ, pos, negsuc, ◌-ℤ◌}
-use lib.Signed.{mag}
-use mir.Syntax.{w64}
-use mir.Val.{SFits, to_z, of_z}
-use mir.ValLaws.{to_z_pos, to_z-of_z}
+use lib.IntN.{ℤ, pos, ◌-ℤ◌}
 use lib.ListN.{get_or}
 use Rattle.laws.specs.Lists.{at}
 use Rattle.rules.specs.Limits.{tasks_max, period_max, clock_max}
@@ -30,32 +26,9 @@ use Rattle.machine.specs.declared.state.State.{State}
 use Rattle.machine.specs.Full.{Full}
 use Rattle.machine.specs.Views.{tasks, units, view, formed}
 use Rattle.machine.specs.Answers.{Small, asked, lead_answer}
-use Rattle.machine.specs.declared.lead.LeadAnswer.TheVariants.{Taken, Refused}
 use Rattle.machine.proofs.Viewing.{at-viewed, size-view, row_of-view}
 use Rattle.machine.proofs.Packing.{padded-few}
 use Rattle.machine.proofs.Asking.{formed-says, asked_ill, asked_well}
-
--- ---- a signed difference
-
-mag_cond : (b : Bool) (m n : ℕ) {k : ℕ} → m ≤ k → n ≤ k → mag (cond b (negsuc m) (pos n)) ≤ k
-mag_cond true m n h l = h
-mag_cond false m n h l = l
-
-mag_sub : (a b : ℕ) → mag (pos a -ℤ pos b) ≤ a + b
-mag_sub a zero = omega arith
-mag_sub a (suc b) = mag_cond (ltb a (suc b)) (suc b - suc a) (a - suc b) (omega arith) (omega arith)
-
-module _ (a b : ℕ) (small : Small a b) where
-  as_signed : to_z w64 a -ℤ to_z w64 b ≡ pos a -ℤ pos b
-  as_signed = rw (to_z_pos w64 a (omega arith), to_z_pos w64 b (omega arith))
-
-  -- it fits 64 bits with a sign
-  pub difference_fits : SFits w64 (to_z w64 a -ℤ to_z w64 b)
-  difference_fits = rw as_signed (record { sfits = omega (arith, mag_sub a b) })
-
-  -- and what is read back of those bits is the difference
-  pub difference_is : to_z w64 (of_z w64 (to_z w64 a -ℤ to_z w64 b)) ≡ pos a -ℤ pos b
-  difference_is = to_z-of_z w64 (to_z w64 a -ℤ to_z w64 b) difference_fits ∙ as_signed
 
 -- ---- what a task was given, times its period
 
@@ -141,7 +114,7 @@ module _ (s : State) (i : ℕ) where
   tests st = test (outside i 1 (size st.table)) BadTasks ∷ []
 
   -- the state is not well formed
-  pub lead_ill : formed s ≡ false → Refused BadState ≡ lead_answer (asked s (λ st. ask_lead st i))
+  pub lead_ill : formed s ≡ false → Err BadState ≡ lead_answer (asked s (λ st. ask_lead st i))
   unfolding ask_lead
   lead_ill e = ap lead_answer (sym (asked_ill s tests (λ st. lead st i) e))
 
@@ -151,7 +124,7 @@ module _ (s : State) (i : ℕ) where
     sizes = size-view s.table full.rows (padded-few s (formed-says s ok).0)
 
     -- there is no such task
-    pub lead-out : outside i 1 (tasks s) ≡ true → Refused BadTasks ≡ lead_answer (asked s (λ st. ask_lead st i))
+    pub lead-out : outside i 1 (tasks s) ≡ true → Err BadTasks ≡ lead_answer (asked s (λ st. ask_lead st i))
     unfolding ask_lead
     lead-out e = sym (ap lead_answer (asked_well s tests (λ st. lead st i) ok) ∙ rw (sizes, e))
 
@@ -168,9 +141,9 @@ module _ (s : State) (i : ℕ) where
             let w = within i 1 (tasks s) e in
             rw (ep, eq) (lead-small s full ok i w.least w.most)
 
-        pub lead_in : (z : ℤ) → z ≡ pos (given_here s i * p) -ℤ pos q → Taken z ≡ lead_answer (asked s (λ st. ask_lead st i))
+        pub lead_in : (z : ℤ) → z ≡ pos (given_here s i * p) -ℤ pos q → Ok z ≡ lead_answer (asked s (λ st. ask_lead st i))
         unfolding ask_lead
         lead_in z h =
             let w = within i 1 (tasks s) e in
             let whole : z ≡ lead (view s) i = h ∙ rw (ep, eq) (sym (lead_is s full ok i w.least w.most)) in
-            ap Taken whole ∙ sym (ap lead_answer (asked_well s tests (λ st. lead st i) ok) ∙ rw (sizes, e))
+            ap Ok whole ∙ sym (ap lead_answer (asked_well s tests (λ st. lead st i) ok) ∙ rw (sizes, e))

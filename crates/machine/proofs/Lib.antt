@@ -1,7 +1,7 @@
 pub mod Arrays
 pub mod Viewing
-pub mod Ranking
-pub mod Padding
+pub mod Walking
+pub mod Dividing
 pub mod Fitting
 pub mod Packing
 pub mod Packed

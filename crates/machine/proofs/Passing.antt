@@ -1,30 +1,26 @@
 -- What the analysis of a table struct says: whether the table is accepted, and its order.
+use Rattle.std.proofs.Common.{Result, Ok, Err}
 use Prim.Native.Nat.{ℕ, ◌≤◌}
 use mathlib.Core.Path.{◌≡◌, refl, sym, ap, ◌∙◌}
 use mathlib.Core.Bool.{Bool, true, false}
 use mathlib.Core.List.{List}
-use mathlib.Core.Option.{Option, none, some}
+use mathlib.Core.Option.{none}
 use lib.Dec.{T}
 use lib.ListN.{length}
 use Rattle.laws.proofs.Tests.{of_T}
 use Rattle.rules.specs.Limits.{tasks_max}
-use Rattle.rules.specs.Refusals.{passes, first, answered, settle}
+use Rattle.rules.specs.Refusals.{passes, first, settle}
 use Rattle.rules.specs.Tables.{accepts, list_tests}
 use Rattle.rules.specs.Verdicts.{order}
-use Rattle.rules.specs.declared.refusal.Refusal.{Refusal}
+use Rattle.rules.specs.declared.kinds.TaskNumber.{TaskNumber}
+use Rattle.rules.specs.declared.refusal.Refused.{Refused}
+use Rattle.rules.proofs.Results.{answered_ok, answered_err}
 use Rattle.reading_laws.proofs.Tests.{passes_none, none_passes}
 use Rattle.tables.specs.Views as Tables
 use Rattle.tables.specs.declared.table.Table.{Table}
-use Rattle.tables.specs.declared.table.Outcome.TheVariants.{Taken, Refused}
-use Rattle.verdicts.specs.Structs.{outcome_of, lines_tests, struct_tests, pack_ranks, priority_answer}
-use Rattle.verdicts.specs.declared.table.PriorityAnswer.{PriorityAnswer}
-use Rattle.verdicts.proofs.Testing.{none-refused, one_refused}
+use Rattle.verdicts.specs.Structs.{lines_tests, struct_tests, pack_ranks, priority_answer}
 use Rattle.machine.specs.Views.{task_number, packed}
 use Rattle.machine.proofs.Viewing.{size-view}
-
-outcome_of_lem : (o : Option Refusal) (ranks : List ℕ) → (priority_answer (answered o ranks)).outcome ≡ outcome_of o
-outcome_of_lem none ranks = refl
-outcome_of_lem (some r) ranks = refl
 
 -- the order as an array
 pub order-packed : (ranks : List ℕ) → pack_ranks ranks ≡ packed task_number ranks
@@ -42,23 +38,27 @@ module _ (t : Table) (full : length t.rows ≡ tasks_max) (few : t.n.0 ≤ tasks
   pub analysis_accepted : T (accepts (Tables.view t)) → first (struct_tests t) ≡ none
   analysis_accepted a = passes_none (struct_tests t) (rw same_tests at a)
 
-  module _ {p : PriorityAnswer} (is : p ≡ priority_answer (settle (struct_tests t) (order (Tables.view t)))) where
-    told : p.outcome ≡ outcome_of (first (struct_tests t))
-    told = ap (λ (x : PriorityAnswer). x.outcome) is ∙ outcome_of_lem (first (struct_tests t)) (order (Tables.view t))
+  module _ {p : Result (List TaskNumber) Refused} (is : p ≡ priority_answer (settle (struct_tests t) (order (Tables.view t)))) where
+    pub taken-accepts : {ranks : List TaskNumber} → p ≡ Ok ranks → accepts (Tables.view t) ≡ true
+    taken-accepts e =
+        let none = (answered_ok pack_ranks (first (struct_tests t)) (order (Tables.view t)) (sym is ∙ e)).0 in
+        same_tests ∙ of_T (passes (struct_tests t)) (none_passes (struct_tests t) none)
 
-    pub taken-accepts : p.outcome ≡ Taken → accepts (Tables.view t) ≡ true
-    taken-accepts e = same_tests ∙ of_T (passes (struct_tests t)) (none_passes (struct_tests t) (none-refused (first (struct_tests t)) (sym told ∙ e)))
-
-    pub refused-accepts : {r : Refusal} {l : ℕ} → p.outcome ≡ Refused r l → accepts (Tables.view t) ≡ false
-    refused-accepts {r} e = by_test (accepts (Tables.view t)) refl
+    pub refused-accepts : {e : Refused} → p ≡ Err e → accepts (Tables.view t) ≡ false
+    refused-accepts {e} h = by_test (accepts (Tables.view t)) refl
       where
         by_test : (b : Bool) → accepts (Tables.view t) ≡ b → b ≡ false
         by_test true a =
-            let some_one = one_refused (first (struct_tests t)) (sym told ∙ e) in
+            let some_one = (answered_err pack_ranks (first (struct_tests t)) (order (Tables.view t)) (sym is ∙ h)).0 in
             let no_one = analysis_accepted (rw a tt) in
             cc
         by_test false a = refl
 
     -- its order is the table's
-    pub taken-ranks : first (struct_tests t) ≡ none → p.ranks ≡ packed task_number (order (Tables.view t))
-    taken-ranks e = ap (λ (x : PriorityAnswer). x.ranks) is ∙ rw e (order-packed (order (Tables.view t)))
+    pub taken-ranks : {ranks : List TaskNumber} → p ≡ Ok ranks → ranks ≡ packed task_number (order (Tables.view t))
+    taken-ranks e =
+        sym (answered_ok pack_ranks (first (struct_tests t)) (order (Tables.view t)) (sym is ∙ e)).1 ∙ order-packed (order (Tables.view t))
+
+    -- and is there where no test is failed
+    pub ranks-there : first (struct_tests t) ≡ none → p ≡ Ok (packed task_number (order (Tables.view t)))
+    ranks-there e = is ∙ rw e (ap Ok (order-packed (order (Tables.view t))))

@@ -1,12 +1,12 @@
 -- What is asked of a struct, and what is answered.
-use Rattle.std.specs.Prelude.{ℕ, ◌^◌, ◌<◌, cond, ℤ}
-use Rattle.rules.specs.Refusals.{Answer, taken, refused}
+use Rattle.std.specs.Prelude.{ℕ, ◌^◌, ◌<◌, cond, ℤ, Result}
+use Rattle.rules.specs.Refusals.{Answer, refused}
+use Rattle.rules.specs.Results.{plain_reply}
 use Rattle.rules.specs.States as States
+use Rattle.rules.specs.declared.refusal.Refusal.{Refusal}
 use Rattle.rules.specs.declared.refusal.Refusal.TheVariants.{BadState}
 use Rattle.machine.specs.Views.{view, padded}
 use Rattle.machine.specs.declared.state.State.{State}
-use Rattle.machine.specs.declared.lead.LeadAnswer.{LeadAnswer}
-use Rattle.machine.specs.declared.lead.LeadAnswer.TheVariants as lead
 
 -- what the rules answer of the state that a struct says; a struct that is not padded is not well formed
 unfoldable pub asked : {A : Type 0} → State → (States.State → Answer A) → Answer A
@@ -19,6 +19,5 @@ pub record Small (a b : ℕ) : Type 0 where
   pub left : a < 2 ^ 62
   pub right : b < 2 ^ 62
 
-abbrev pub lead_answer : Answer ℤ → LeadAnswer
-lead_answer (taken z) = lead.Taken z
-lead_answer (refused r l) = lead.Refused r
+abbrev pub lead_answer : Answer ℤ → Result ℤ Refusal
+lead_answer a = plain_reply (λ z. z) a

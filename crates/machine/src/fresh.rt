@@ -15,10 +15,9 @@ pub fn fresh(t: Table) -> State
     requires { Opened t }
     ensures { result ≡ pack (States.fresh (Tables.view t)) }
 {
-    let ranks = priority(t).ranks;
     State {
         table: t,
-        ranks: ranks,
+        ranks: priority(t).unwrap(),
         clock: Slot(0),
         left: [Units(0); 64],
         last: [CoreNumber(0); 64],

@@ -9,18 +9,6 @@ use rules::kinds::is_outside;
 use rules::refusal::Refusal;
 use verdicts::share::times;
 
-#[derive(Clone, Copy)]
-pub enum LeadAnswer {
-    Taken(i64),
-    Refused(Refusal),
-}
-
-fn wide(x: u32) -> u64
-    ensures { result ≡ x }
-{
-    x as u64
-}
-
 // a - b, a signed number.
 fn difference(a: u64, b: u64) -> i64
     requires { Small a b }
@@ -30,17 +18,17 @@ fn difference(a: u64, b: u64) -> i64
 }
 
 // done × T - t × C of task i at boundary t.
-pub fn lead(s: State, i: u32) -> LeadAnswer
+pub fn lead(s: State, i: u32) -> Result<i64, Refusal>
     ensures { result ≡ lead_answer (asked s (λ st. ask_lead st i)) }
 {
     if !is_formed(s) {
-        return LeadAnswer::Refused(Refusal::BadState);
+        return Err(Refusal::BadState);
     }
     let t = s.table;
     if is_outside(i, 1, t.n.0) {
-        return LeadAnswer::Refused(Refusal::BadTasks);
+        return Err(Refusal::BadTasks);
     }
     let k = (i - 1) as usize;
-    let worked = s.done[k].0 * wide(t.rows[k].t);
-    LeadAnswer::Taken(difference(worked, times(s.clock.0, t.rows[k].c)))
+    let worked = s.done[k].0 * u64::from(t.rows[k].t);
+    Ok(difference(worked, times(s.clock.0, t.rows[k].c)))
 }

@@ -1,4 +1,5 @@
 -- The promises of the functions in Rattle, by their contracts alone.
+use Rattle.std.proofs.Common.{Result, Ok}
 use Prim.Native.Nat.{ℕ, ◌+◌, ◌-◌, ◌*◌, ◌≤◌}
 use mathlib.Core.Path.{◌≡◌, sym, ap, ◌∙◌}
 use mathlib.Core.List.{List}
@@ -36,8 +37,8 @@ use Rattle.machine.specs.Answers.{asked}
 use Rattle.machine.specs.declared.state.State.{State}
 use Rattle.machine.proofs.fresh.fresh.Reads as fresh-of
 use Rattle.runs.specs.Slots.{frame_length}
-use Rattle.runs.specs.Answers.{RunEnd, run_answer}
-use Rattle.runs.specs.declared.run.RunOutcome.TheVariants.{Taken}
+use Rattle.runs.specs.Answers.{RunEnd, run_end, run_answer}
+use Rattle.rules.specs.declared.refusal.Refusal.{Refusal}
 use Rattle.runs.proofs.run.run.Reads as run_of
 use Rattle.runs.proofs.run.step.Reads as step_of_lem
 use Rattle.reports.proofs.Taking as Taken
@@ -56,9 +57,9 @@ use Rattle.promises.proofs.Running.{came}
 -- ---- a table that came from a reader can be opened
 
 pub taking-opened : {t : Table} → Taking t → Opened t
-taking-opened (by_file c e) = takes_startable (read_file c.args.0.now) (file_takes c.args.0.now) c.permitted e
+taking-opened (by_file c e) = takes_startable (read_file c.args.0.now) (file_takes c.args.0.now) c.permitted _ e
 taking-opened (by_list c e) =
-    takes_startable (take_list c.args.0 (list_rows c.args.1.0.now)) (list_takes c.args.0 (list_rows c.args.1.0.now)) c.permitted e
+    takes_startable (take_list c.args.0 (list_rows c.args.1.0.now)) (list_takes c.args.0 (list_rows c.args.1.0.now)) c.permitted _ e
 
 pub taking-accepted : {t : Table} → Taking t → T (accepts (Tables.view t))
 taking-accepted {t} h = (accepts-iff (Tables.view t)).1 (taking-opened h).sound.bounds
@@ -82,25 +83,27 @@ module _ {tbl : Rules.Table} (t : T (accepts tbl)) (r : Call run_of.Post) {b : �
   formed = run-formed tbl t b g.in_time
 
   -- a run with time and room is taken
-  pub run_is_taken : b + count ≤ clock_max → place + count * frame_length tbl.m ≤ length out → r.result.outcome ≡ Taken
+  pub run_is_taken : b + count ≤ clock_max → place + count * frame_length tbl.m ≤ length out → (s : State) × (r.result ≡ Ok s)
   run_is_taken soon room =
-      let m : from.table.m ≡ tbl.m = ap (λ (x : Rules.Table). x.m) (table_at tbl b) in
-      ap (λ (x : RunEnd). x.answer.outcome)
-      (r.permitted
-      ∙ ap (λ (s : State). run_answer s count out place) g.says
-      ∙ Taken.run-taken from formed out place count (omega (arith, clock-at tbl b)) (rw m room))
+      let m : from.table.m ≡ tbl.m = ap (λ (x : Rules.Table). x.m) (table_at tbl b) in (
+        _,
+        ap (λ (x : RunEnd). x.answer)
+            (r.permitted
+            ∙ ap (λ (s : State). run_answer s count out place) g.says
+            ∙ Taken.run-taken from formed out place count (omega (arith, clock-at tbl b)) (rw m room)),
+      )
 
   -- one that was taken leaves the state at the boundary after its slots, and their lines
-  run_leaves : (told : r.result.outcome ≡ Taken) → Running.Ran structs (Reached tbl) tbl b (r, told)
+  run_leaves : (s : State) (told : r.result ≡ Ok s) → Running.Ran structs (Reached tbl) tbl b (r, s, told)
   unfolding run_answer
-  run_leaves told =
+  run_leaves s told =
       let ask : States.State → Answer Ran = λ st. run_slots st count out place in
-      let w = of_taken r.args.0 out (asked r.args.0 ask) r.permitted told in
+      let w = of_taken out (asked r.args.0 ask) (ap (λ (x : Result State Refusal). run_end x r.exits.1.1.0.now) (sym told) ∙ r.permitted) in
       let e : ask from ≡ taken w.0 = sym (asked-packed from formed ask) ∙ ap (λ (s : State). asked s ask) (sym g.says) ∙ w.1 in
-      Running.by_rules tbl t (r, told) b formed e w.3 (λ soon f. record { in_time = soon; says = w.2 ∙ ap pack f })
+      Running.by_rules tbl t (r, s, told) b formed e w.3 (λ soon f. record { in_time = soon; says = w.2 ∙ ap pack f })
 
 run_step : {tbl : Rules.Table} → T (accepts tbl) → (c : RunTaken) (b : ℕ) → Reached tbl b (structs.from c) → Running.Ran structs (Reached tbl) tbl b c
-run_step t c b g = run_leaves t c.0 g c.1
+run_step t c b g = run_leaves t c.0 g c.1 c.2
 
 -- a step is a run of one slot: what is said of runs holds of steps among them
 pub step_as_run : Call step_of_lem.Post → Call run_of.Post

@@ -1,4 +1,5 @@
 -- The program's text: what its frames say of an accepted table, and of an admitted one.
+use Rattle.std.proofs.Common.{Result, Ok, Err}
 use Prim.Native.Nat.{ℕ, ◌+◌, ◌*◌, ◌≤◌}
 use mathlib.Core.Path.{◌≡◌, refl, sym, ap, subst, ◌∙◌}
 use mathlib.Core.List.{List, [], ◌∷◌, ◌++◌}
@@ -27,8 +28,6 @@ use Rattle.slot_laws.proofs.Books.{fresh_kept, run-kept}
 use Rattle.slot_laws.proofs.Boundaries.{clock-at}
 use Rattle.slot_laws.proofs.Lengths.{length-slot_lines}
 use Rattle.tables.specs.Writes.{Wrote, made, wrote, wrote_text}
-use Rattle.tables.specs.declared.write.WriteAnswer.{WriteAnswer}
-use Rattle.tables.specs.declared.write.WriteAnswer.TheVariants.{Written, Refused}
 use Rattle.runs.specs.Slots.{frame_length}
 use Rattle.reports.specs.Heads.{head, head_length}
 use Rattle.reports.specs.Texts.{slots_of}
@@ -114,7 +113,7 @@ refused-read vs h =
 -- ---- where it stands
 
 -- as a function wrote it
-written-holds : (out : List ℕ) (place : ℕ) (txt : List ℕ) {w : WriteAnswer} {out' : List ℕ} {n : ℕ} → made w out' ≡ wrote_text out place txt → w ≡ Written n
+written-holds : (out : List ℕ) (place : ℕ) (txt : List ℕ) {w : Result ℕ Refusal} {out' : List ℕ} {n : ℕ} → made w out' ≡ wrote_text out place txt → w ≡ Ok n
     → Holds out' place txt × (n ≡ length txt)
 unfolding wrote_text wrote
 written-holds out place txt {w} {out'} {n} e told = by_answer (settle (room_test out place (length txt) ∷ []) (lay out place txt)) refl e
@@ -123,9 +122,9 @@ written-holds out place txt {w} {out'} {n} e told = by_answer (settle (room_test
         → Holds out' place txt × (n ≡ length txt)
     by_answer (taken buffer) f g =
         let r = laid-room out place txt f in
-        let size : w ≡ Written (length txt) = ap (λ (x : Wrote). x.answer) g in
+        let size : w ≡ Ok (length txt) = ap (λ (x : Wrote). x.answer) g in
         (subst (λ (l : List ℕ). Holds l place txt) (r.1 ∙ sym (ap (λ (x : Wrote). x.out) g)) (lay-held out place txt r.0), cc)
-    by_answer (refused q l) f g = let other : w ≡ Refused q = ap (λ (x : Wrote). x.answer) g in never cc
+    by_answer (refused q l) f g = let other : w ≡ Err q = ap (λ (x : Wrote). x.answer) g in never cc
 
 -- all of it, and nothing else
 told_holds : {input out : List ℕ} {place n : ℕ} → Told input out place n → Holds out place (program input) × (n ≡ length (program input))

@@ -1,5 +1,5 @@
 -- What "admitted" means in the program's text, as it stands in a buffer from a place on.
-use Rattle.std.specs.Prelude.{ℕ, ◌+◌, ◌*◌, ◌≡◌, List, T, take, drop}
+use Rattle.std.specs.Prelude.{ℕ, ◌+◌, ◌*◌, ◌≡◌, List, T, take, drop, Ok}
 use Rattle.laws.specs.Lists.{at}
 use Rattle.rules.specs.Limits.{input_max}
 use Rattle.rules.specs.Refusals.{taken}
@@ -10,7 +10,6 @@ use Rattle.rules.specs.Verdicts.{admitted}
 use Rattle.rules.specs.States.{fresh}
 use Rattle.rules.specs.Runs.{after}
 use Rattle.rules.specs.Program.{report}
-use Rattle.tables.specs.declared.write.WriteAnswer.TheVariants.{Written}
 use Rattle.runs.specs.Slots.{frame_length}
 use Rattle.reports.specs.Heads.{head_length}
 use Rattle.reports.specs.Texts.{slots_of}
@@ -27,7 +26,7 @@ pub data Told (input : List ℕ) : List ℕ → ℕ → ℕ → Type 0 where
   by_call : (c : Call zq-report.Post) → c.result ≡ 0 → c.args.0.now ≡ input
       → Told input c.exits.1.0.now c.args.1.1.0 c.exits.1.1.1.0.now
   -- `report`: input, out, at
-  by_function : (c : Call report-of.Post) {n : ℕ} → c.result ≡ Written n → c.args.0.now ≡ input → Told input c.exits.1.0.now c.args.1.1.0 n
+  by_function : (c : Call report-of.Post) {n : ℕ} → c.result ≡ Ok n → c.args.0.now ≡ input → Told input c.exits.1.0.now c.args.1.1.0 n
   -- what the program prints, by the contract of its own function
   by_program : {out out' : List ℕ} {n : ℕ} → Printed input out n out' → Told input out' 0 n
 

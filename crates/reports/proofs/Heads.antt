@@ -1,11 +1,11 @@
 -- The lines that come before the slots, of a table that was accepted.
+use Rattle.std.proofs.Common.{Result, Ok}
 use Prim.Native.Nat.{ℕ, ◌+◌, ◌*◌, min}
-use mathlib.Core.Path.{◌≡◌, sym, ap, ◌∙◌}
+use mathlib.Core.Path.{◌≡◌, sym, ◌∙◌}
 use mathlib.Core.List.{List, ◌++◌, map}
 use native.Mathlib.Omega.{arith}
 use lib.Dec.{T}
 use lib.ListN.{length, take, length-append}
-use Rattle.laws.proofs.Tests.{never}
 use Rattle.rules.specs.Limits.{tasks_max}
 use Rattle.rules.specs.Refusals.{settle}
 use Rattle.rules.specs.Repeat.{repeat_length}
@@ -13,7 +13,8 @@ use Rattle.rules.specs.Runs.{verdict_line, order_line}
 use Rattle.rules.specs.Tables as Rules
 use Rattle.rules.specs.Tables.{size, accepts}
 use Rattle.rules.specs.Verdicts.{verdict, heavy_count, order}
-use Rattle.rules.specs.declared.refusal.Refusal.{Refusal}
+use Rattle.rules.specs.declared.refusal.Refused.{Refused}
+use Rattle.rules.specs.declared.kinds.TaskNumber.{TaskNumber}
 use Rattle.rules.specs.declared.verdict.Verdict.{Verdict}
 use Rattle.priority_laws.proofs.Priority.{order-length}
 use Rattle.reading_laws.proofs.Tests.{accepts-iff}
@@ -23,9 +24,6 @@ use Rattle.tables.proofs.Views.{length-view}
 use Rattle.verdicts.specs.Lines.{verdict_frame}
 use Rattle.verdicts.specs.Structs.{struct_tests, judgement_of, verdict_answer, pack_ranks, priority_answer}
 use Rattle.verdicts.specs.declared.table.Judgement.{Judgement}
-use Rattle.verdicts.specs.declared.table.PriorityAnswer.{PriorityAnswer}
-use Rattle.verdicts.specs.declared.table.VerdictAnswer.{VerdictAnswer}
-use Rattle.verdicts.specs.declared.table.VerdictAnswer.TheVariants.{Judged, Refused}
 use Rattle.verdicts.proofs.Accepted.{verdict-accepted, priority-accepted, verdict-line, plain-packed}
 use Rattle.verdicts.proofs.Pieces.{length-verdict, length-order_line}
 use Rattle.machine.specs.Tables.{Opened}
@@ -54,16 +52,14 @@ module _ (t : Table) (o : Opened t) where
   pub accepted : T (accepts (view t))
   accepted = (accepts-iff (view t)).1 o.sound.bounds
 
-  judged : verdict_answer (settle (struct_tests t) (judgement_of (view t))) ≡ Judged (judgement_of (view t))
+  -- the verdict is given, and it is the table's
+  pub judged : verdict_answer (settle (struct_tests t) (judgement_of (view t))) ≡ Ok (judgement_of (view t))
   judged = rw o.formed at (verdict-accepted (view t) accepted)
 
-  module _ {a : VerdictAnswer} (is : a ≡ verdict_answer (settle (struct_tests t) (judgement_of (view t)))) where
-    -- the verdict is given, and it is the table's
-    pub judged_is : {j : Judgement} → a ≡ Judged j → j ≡ judgement_of (view t)
-    judged_is e = cc judged
-
-    pub never_refused : {r : Refusal} {l : ℕ} → a ≡ Refused r l → ⊥
-    never_refused e = never (cc judged)
+  pub judged_is : {a : Result Judgement Refused} {j : Judgement} → a ≡ verdict_answer (settle (struct_tests t) (judgement_of (view t))) → a ≡ Ok j → j ≡ judgement_of (view t)
+  judged_is {a} {j} is e =
+      let same : Ok j ≡ Ok (judgement_of (view t)) = sym e ∙ is ∙ judged in
+      cc
 
   -- the frame of its numbers is the table's line
   pub judgement-written : (rest : List ℕ) {now : List ℕ} {v : Verdict} {heavy h : ℕ}
@@ -74,15 +70,18 @@ module _ (t : Table) (o : Opened t) where
       → now ≡ verdict_line (view t) ++ rest
   judgement-written rest e ev en eh = e ∙ rw (ev, en, eh, verdict-line (view t))
 
-  ordered : (priority_answer (settle (struct_tests t) (order (view t)))).ranks ≡ pack_ranks (order (view t))
-  ordered = ap (λ (p : PriorityAnswer). p.ranks) (rw o.formed at (priority-accepted (view t) accepted))
+  -- the order is given, and it is the table's
+  pub ordered : priority_answer (settle (struct_tests t) (order (view t))) ≡ Ok (pack_ranks (order (view t)))
+  ordered = rw o.formed at (priority-accepted (view t) accepted)
 
   -- the front of the array of ranks is the order
-  pub ranks-front : {p : PriorityAnswer} {ranks : List ℕ} {n : ℕ}
-      → p ≡ priority_answer (settle (struct_tests t) (order (view t)))
-      → ranks ≡ map (λ i. i.0) p.ranks
+  pub ranks-front : {a : Result (List TaskNumber) Refused} {tasks : List TaskNumber} {ranks : List ℕ} {n : ℕ}
+      → a ≡ priority_answer (settle (struct_tests t) (order (view t)))
+      → a ≡ Ok tasks
+      → ranks ≡ map (λ i. i.0) tasks
       → n ≡ size (view t)
       → take n ranks ≡ order (view t)
-  ranks-front {p} {ranks} {n} ep er en =
-      let front : ranks ≡ map (λ i. i.0) (pack_ranks (order (view t))) = er ∙ ap (map (λ i. i.0)) (ap (λ (x : PriorityAnswer). x.ranks) ep ∙ ordered) in
-      rw (front, en, ← order-length (view t)) (plain-packed (order (view t)))
+  ranks-front {a} {tasks} {ranks} {n} is e er en =
+      let same : Ok tasks ≡ Ok (pack_ranks (order (view t))) = sym e ∙ is ∙ ordered in
+      let packed : tasks ≡ pack_ranks (order (view t)) = cc in
+      rw (er, packed, en, ← order-length (view t)) (plain-packed (order (view t)))

@@ -1,5 +1,6 @@
 -- The text for an answer of the reader.
-use Prim.Native.Nat.{ℕ, ◌≤◌, ◌<◌}
+use Rattle.std.proofs.Common.{Result, Ok, Err}
+use Prim.Native.Nat.{ℕ, ◌≤◌}
 use mathlib.Core.Path.{◌≡◌, refl, sym, ap, ◌∙◌, subst}
 use mathlib.Core.List.{List, [], ◌∷◌, ◌++◌}
 use native.Mathlib.Omega.{arith}
@@ -10,14 +11,15 @@ use Rattle.rules.specs.Frames.{refusal, frame}
 use Rattle.rules.specs.Files.{read_file}
 use Rattle.rules.specs.Program.{report, reply}
 use Rattle.rules.specs.declared.refusal.Refusal.{Refusal}
+use Rattle.rules.specs.declared.refusal.Refused.{Refused}
+use Rattle.rules.proofs.Results.{reply_ok}
 use Rattle.reading_laws.specs.Outcomes.{Reads, no_header, bad_cores, bad_tasks, no_row, bad_row, trailing, bad_repeat}
 use Rattle.reading_laws.proofs.Frames.{length-frame}
 use Rattle.reading_laws.proofs.Outcomes.{reads}
 use Rattle.reading_laws.proofs.Files.{written_read}
-use Rattle.tables.specs.Views.{view, pack, without_table, table_answer}
-use Rattle.tables.specs.declared.table.Outcome.TheVariants.{Taken, Refused}
-use Rattle.tables.specs.declared.table.TableAnswer.{TableAnswer}
-use Rattle.tables.proofs.Views.{view-pack, taken_of, refused_of}
+use Rattle.tables.specs.Views.{view, pack, table_answer}
+use Rattle.tables.proofs.Views.{view-pack}
+use Rattle.tables.specs.declared.table.Table.{Table}
 use Rattle.machine.specs.Tables.{Opened}
 use Rattle.machine.proofs.Starting.{opened}
 use Rattle.reports.specs.Texts.{report_length}
@@ -45,7 +47,7 @@ refused-line s e = line-few (subst (Reads s) e (reads s))
 -- ---- what the struct of an answer says
 
 pub reply-answer : (x : Answer Rules.Table) → reply_to (table_answer x) ≡ reply x
-unfolding reply_to table_answer without_table
+unfolding reply_to
 reply-answer (taken tbl) = ap (λ (t : Rules.Table). reply (taken t)) (view-pack tbl)
 reply-answer (refused r l) = refl
 
@@ -53,40 +55,33 @@ reply-answer (refused r l) = refl
 at_front : (out : List ℕ) {a b : List ℕ} {n : ℕ} → a ≡ b → length b ≡ n → b ++ drop n out ≡ a ++ drop (length a) out
 at_front out e len = rw (e, len)
 
-module _ {a : TableAnswer} (w : Answered a) where
-  told : (table_answer (read_file w.file)).outcome ≡ a.outcome
-  told = ap (λ (x : TableAnswer). x.outcome) (sym w.is)
-
+module _ {a : Result Table Refused} (w : Answered a) where
   -- the reader gave a table: it is accepted, and its text is the report
-  module _ (e : a.outcome ≡ Taken) where
-    pub taken-opened : Opened a.table
+  module _ {t : Table} (e : a ≡ Ok t) where
+    pub taken-opened : Opened t
     taken-opened =
-        let found = taken_of (read_file w.file) (told ∙ e) in
-        let table_is : pack found.0 ≡ a.table = sym (ap (λ (x : TableAnswer). x.table) w.is ∙ found.2) in
-        subst Opened table_is (opened found.0 (written_read w.file found.0 found.1).1)
+        let found = reply_ok pack (read_file w.file) (sym w.is ∙ e) in
+        subst Opened found.2 (opened found.0 (written_read w.file found.0 found.1).1)
 
-    taken-reply : reply_to a ≡ report (view a.table)
+    taken-reply : reply_to a ≡ report (view t)
     unfolding reply_to reply
     taken-reply = rw e
 
-    pub taken-length : length (reply_to a) ≡ report_length (view a.table)
-    taken-length = ap length taken-reply ∙ length-report (view a.table)
+    pub taken-length : length (reply_to a) ≡ report_length (view t)
+    taken-length = ap length taken-reply ∙ length-report (view t)
 
-    pub taken-written : (out : List ℕ) → report (view a.table) ++ drop (report_length (view a.table)) out ≡ reply_to a ++ drop (length (reply_to a)) out
-    taken-written out = at_front out taken-reply (length-report (view a.table))
+    pub taken-written : (out : List ℕ) → report (view t) ++ drop (report_length (view t)) out ≡ reply_to a ++ drop (length (reply_to a)) out
+    taken-written out = at_front out taken-reply (length-report (view t))
 
-  -- it refused the file: the line fits its field, and the text is the frame
-  module _ {r : Refusal} {l : ℕ} (e : a.outcome ≡ Refused r l) where
-    pub refused-fits : l < 65_536
-    refused-fits = omega (arith, refused-line w.file (refused_of (read_file w.file) (told ∙ e)))
-
-    refused-reply : reply_to a ≡ frame refusal (number_of r ∷ l ∷ [])
+  -- it refused the file: the text is the frame
+  module _ {r : Refused} (e : a ≡ Err r) where
+    refused-reply : reply_to a ≡ frame refusal (number_of r.refusal ∷ r.line ∷ [])
     unfolding reply_to reply
     refused-reply = rw e
 
     pub refused-length : length (reply_to a) ≡ 9
-    refused-length = ap length refused-reply ∙ length-refusal (number_of r) l
+    refused-length = ap length refused-reply ∙ length-refusal (number_of r.refusal) r.line
 
-    pub refused-written : (out : List ℕ) {now : List ℕ} {n k : ℕ} → now ≡ frame refusal (n ∷ k ∷ []) ++ drop 9 out → n ≡ number_of r → k ≡ l
+    pub refused-written : (out : List ℕ) {now : List ℕ} {k : ℕ} → now ≡ frame refusal (number_of r.refusal ∷ k ∷ []) ++ drop 9 out → k ≡ r.line
         → now ≡ reply_to a ++ drop (length (reply_to a)) out
-    refused-written out e en ek = e ∙ rw (en, ek) (at_front out refused-reply (length-refusal (number_of r) l))
+    refused-written out e ek = e ∙ rw ek (at_front out refused-reply (length-refusal (number_of r.refusal) r.line))

@@ -1,14 +1,15 @@
 -- The text for any input: where it goes, and that it is never longer than the program's buffer.
-use Prim.Native.Nat.{ℕ, ◌+◌, ◌-◌, ◌≤◌, ◌<◌, min}
+use Rattle.std.proofs.Common.{Result, Ok, Err}
+use Prim.Native.Nat.{ℕ, ◌-◌, ◌≤◌, min}
 use mathlib.Core.Path.{◌≡◌, refl, sym, ap, ◌∙◌}
 use mathlib.Core.Bool.{true, false}
 use mathlib.Core.Logic.{⊎_elim}
 use mathlib.Core.List.{List, ◌++◌}
 use native.Mathlib.Omega.{arith}
 use borrow.Author.Tests.{ltb-true, ltb-false}
-use borrow.Rule.Slice.PartMut.{put_mid}
+use borrow.Rule.Slice.PartMut.{mid_of, put_mid}
 use lib.Dec.{ltb}
-use lib.ListN.{length, take, drop, length-append}
+use lib.ListN.{length, take, drop}
 use lib.Seq.{take_all}
 use Rattle.laws.proofs.Tests.{never, decide}
 use Rattle.rules.specs.Limits.{input_max}
@@ -18,15 +19,14 @@ use Rattle.rules.specs.Tables.{size}
 use Rattle.rules.specs.Files.{read_file}
 use Rattle.rules.specs.Program.{reply, program}
 use Rattle.rules.specs.declared.refusal.Refusal.{Refusal}
-use Rattle.rules.specs.declared.refusal.Refusal.TheVariants.{NoRoom}
+use Rattle.rules.specs.declared.refusal.Refused.{Refused}
+use Rattle.rules.specs.Results.{room_reply}
+use Rattle.tables.specs.declared.table.Table.{Table}
 use Rattle.slot_laws.proofs.Forms.{Accepted, accepted}
 use Rattle.reading_laws.proofs.Lays.{lay-front}
 use Rattle.reading_laws.proofs.Files.{written_read}
 use Rattle.tables.specs.Views.{table_answer}
 use Rattle.tables.specs.Writes.{Wrote, made}
-use Rattle.tables.specs.declared.table.TableAnswer.{TableAnswer}
-use Rattle.tables.specs.declared.write.WriteAnswer.{WriteAnswer}
-use Rattle.tables.specs.declared.write.WriteAnswer.TheVariants.{Written, Refused}
 use Rattle.reports.specs.Texts.{slots_of}
 use Rattle.reports.specs.Reports.{text_max, report_of, Printed, reply_to}
 use Rattle.reports.proofs.Texts.{text_bound}
@@ -48,7 +48,7 @@ start_is input k e =
 
 -- ---- where the text goes
 
-module _ (input out : List ℕ) (place : ℕ) {a : TableAnswer} (is : a ≡ table_answer (read_file (take input_max input))) {size : ℕ} (long : size ≡ length (reply_to a)) where
+module _ (input out : List ℕ) (place : ℕ) {a : Result Table Refused} (is : a ≡ table_answer (read_file (take input_max input))) {size : ℕ} (long : size ≡ length (reply_to a)) where
   text_is : reply_to a ≡ program input
   unfolding program
   text_is = ap reply_to is ∙ reply-answer (read_file (take input_max input))
@@ -57,18 +57,18 @@ module _ (input out : List ℕ) (place : ℕ) {a : TableAnswer} (is : a ≡ tabl
   size_is = sym (long ∙ ap length text_is)
 
   -- there is no room for it
-  pub no_room : length out < place + size → made (Refused NoRoom) out ≡ report_of input out place
+  pub no_room : {r : Refusal} → room_reply (length out) place size ≡ Err r → made (Err r) out ≡ report_of input out place
   unfolding report_of
   no_room h = text_short out place (program input) size size_is h
 
   -- there is, and it was written through the lent tail
-  pub room_given : {tail : List ℕ} → place + size ≤ length out
-      → tail ≡ reply_to a ++ drop (length (reply_to a)) (take (length out - place) (drop place out))
-      → made (Written size) (put_mid place (length out - place) out tail) ≡ report_of input out place
+  pub room_given : {u : Unit {0}} {tail : List ℕ} → room_reply (length out) place size ≡ Ok u
+      → tail ≡ reply_to a ++ drop (length (reply_to a)) (mid_of place (length out - place) out)
+      → made (Ok size) (put_mid place (length out - place) out tail) ≡ report_of input out place
   unfolding report_of
-  room_given {tail} h e =
+  room_given {tail = tail} h e =
       text-written out place (program input) size size_is h tail
-      (e ∙ ap (λ (l : List ℕ). l ++ drop (length l) (take (length out - place) (drop place out))) text_is ∙ rw size_is)
+      (e ∙ ap (λ (l : List ℕ). l ++ drop (length l) (mid_of place (length out - place) out)) text_is ∙ rw size_is)
 
 -- ---- how long it is
 
@@ -86,21 +86,21 @@ program_short input = reply_short (take input_max input) (read_file (take input_
 
 -- ---- a buffer that is long enough for any text
 
-module _ (input out : List ℕ) (room : text_max ≤ length out) {r : WriteAnswer} {out' : List ℕ} (made_so : made r out' ≡ report_of input out 0) where
-  all-written : made r out' ≡ made (Written (length (program input))) (program input ++ drop (length (program input)) out)
+module _ (input out : List ℕ) (room : text_max ≤ length out) {r : Result ℕ Refusal} {out' : List ℕ} (made_so : made r out' ≡ report_of input out 0) where
+  all-written : made r out' ≡ made (Ok (length (program input))) (program input ++ drop (length (program input)) out)
   unfolding report_of
   all-written =
       made_so
       ∙ text-laid out 0 (program input) (length (program input)) refl (omega (arith, program_short input))
-      ∙ ap (made (Written (length (program input)))) (lay-front out (program input))
+      ∙ ap (made (Ok (length (program input)))) (lay-front out (program input))
 
-  answer_is : r ≡ Written (length (program input))
+  pub answer_is : r ≡ Ok (length (program input))
   answer_is = ap (λ (w : Wrote). w.answer) all-written
 
   -- is never refused
-  pub never_refused : {x : Refusal} → r ≡ Refused x → ⊥
+  pub never_refused : {x : Refusal} → r ≡ Err x → ⊥
   never_refused e = never (cc answer_is)
 
   -- and gets all of it
-  pub printed : {n : ℕ} → r ≡ Written n → Printed input out n out'
+  pub printed : {n : ℕ} → r ≡ Ok n → Printed input out n out'
   printed e = record { count = cc answer_is; text = ap (λ (w : Wrote). w.out) all-written }

@@ -1,4 +1,5 @@
 -- A run and the totals of a well-formed state are taken where there is time and room.
+use Rattle.std.proofs.Common.{Ok}
 use Prim.Native.Nat.{ℕ, ◌+◌, ◌*◌, ◌≤◌}
 use mathlib.Core.Path.{◌≡◌, ap, ◌∙◌}
 use mathlib.Core.List.{List, [], ◌∷◌}
@@ -15,7 +16,6 @@ use Rattle.slot_laws.proofs.Forms.{formed-kept}
 use Rattle.slot_laws.proofs.Lengths.{length-slot_lines, length-totals_line}
 use Rattle.slot_laws.proofs.Answers.{run_tests, ran_so}
 use Rattle.tables.specs.Writes.{made, wrote}
-use Rattle.tables.specs.declared.write.WriteAnswer.TheVariants.{Written}
 use Rattle.machine.specs.Views.{view, pack}
 use Rattle.machine.specs.Answers.{asked}
 use Rattle.machine.proofs.Packing.{view-pack}
@@ -23,7 +23,6 @@ use Rattle.machine.proofs.Packed.{kept-sized, struct_formed}
 use Rattle.machine.proofs.Asking.{asked_well}
 use Rattle.runs.specs.Slots.{frame_length}
 use Rattle.runs.specs.Answers.{run_end, ended, run_answer}
-use Rattle.runs.specs.declared.run.RunOutcome.TheVariants.{Taken}
 
 module _ (st : States.State) (ok : T (well_formed st)) (out : List ℕ) (place : ℕ) where
   says : view (pack st) ≡ st
@@ -32,10 +31,10 @@ module _ (st : States.State) (ok : T (well_formed st)) (out : List ℕ) (place :
   -- a run
   module _ (count : ℕ) where
     pub run-taken : st.clock + count ≤ clock_max → place + count * frame_length st.table.m ≤ length out
-        → run_answer (pack st) count out place ≡ run_end (record { outcome = Taken; state = pack (after count st) }) (lay out place (slot_lines count st))
+        → run_answer (pack st) count out place ≡ run_end (Ok (pack (after count st))) (lay out place (slot_lines count st))
     unfolding run_answer run_slots room_test
     run-taken soon room =
-        ap (ended (pack st) out) (asked_well (pack st) (run_tests count out place) (ran_so count out place) (struct_formed st ok))
+        ap (ended out) (asked_well (pack st) (run_tests count out place) (ran_so count out place) (struct_formed st ok))
         ∙ rw (
           says,
           le-ltb clock_max (st.clock + count) soon,
@@ -50,7 +49,7 @@ module _ (st : States.State) (ok : T (well_formed st)) (out : List ℕ) (place :
   abbrev lined : States.State → List ℕ
   lined x = lay out place (totals_line x)
 
-  pub totals-taken : place + 51 ≤ length out → wrote 51 out (asked (pack st) (λ x. write_totals x out place)) ≡ made (Written 51) (lay out place (totals_line st))
+  pub totals-taken : place + 51 ≤ length out → wrote 51 out (asked (pack st) (λ x. write_totals x out place)) ≡ made (Ok 51) (lay out place (totals_line st))
   unfolding write_totals wrote room_test
   totals-taken room =
       ap (wrote 51 out) (asked_well (pack st) room_only lined (struct_formed st ok))

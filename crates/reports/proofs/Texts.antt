@@ -1,4 +1,5 @@
 -- The text of an accepted table: the slots and the totals after its head, and how long it is.
+use Rattle.std.proofs.Common.{Result, Option, Some, None, Ok}
 use Prim.Native.Nat.{ℕ, ◌+◌, ◌-◌, ◌*◌, ◌≤◌, ◌<◌}
 use mathlib.Core.Path.{◌≡◌, refl, sym, ap, ◌∙◌}
 use mathlib.Core.List.{List, ◌++◌}
@@ -18,8 +19,7 @@ use Rattle.rules.specs.Forms.{well_formed}
 use Rattle.rules.specs.Runs.{after, slot_lines, totals_line}
 use Rattle.rules.specs.Answers.{lay, write_totals}
 use Rattle.rules.specs.declared.kinds.Repeat.{Repeat}
-use Rattle.rules.specs.declared.kinds.RepeatAnswer.{RepeatAnswer}
-use Rattle.rules.specs.declared.kinds.RepeatAnswer.TheVariants.{Within, Outside}
+use Rattle.rules.specs.declared.refusal.Refusal.{Refusal}
 use Rattle.priority_laws.proofs.Repeat.{repeat_pos}
 use Rattle.slot_laws.proofs.Books.{fresh-formed, run-formed}
 use Rattle.slot_laws.proofs.Lengths.{length-slot_lines, length-totals_line}
@@ -27,8 +27,6 @@ use Rattle.reading_laws.proofs.Lays.{lay-front, length-lay}
 use Rattle.tables.specs.Views.{view}
 use Rattle.tables.specs.Writes.{Wrote, made, wrote}
 use Rattle.tables.specs.declared.table.Table.{Table}
-use Rattle.tables.specs.declared.write.WriteAnswer.{WriteAnswer}
-use Rattle.tables.specs.declared.write.WriteAnswer.TheVariants.{Written}
 use Rattle.tables.proofs.Bounds.{repeat-taken, repeat-refused}
 use Rattle.reading_laws.proofs.Laying.{Laid, more, laid-front}
 use Rattle.machine.specs.Tables.{Opened}
@@ -37,8 +35,6 @@ use Rattle.machine.specs.Answers.{asked}
 use Rattle.machine.specs.declared.state.State.{State}
 use Rattle.runs.specs.Slots.{frame_length}
 use Rattle.runs.specs.Answers.{RunEnd, run_end, run_answer}
-use Rattle.runs.specs.declared.run.RunAnswer.{RunAnswer}
-use Rattle.runs.specs.declared.run.RunOutcome.TheVariants.{Taken}
 use Rattle.reports.specs.Heads.{head_length}
 use Rattle.reports.specs.Texts.{slots_of, run_lines, run_length, report_length}
 use Rattle.reports.specs.Reports.{text_max}
@@ -46,13 +42,13 @@ use Rattle.reports.proofs.Taking.{run-taken, totals-taken}
 
 -- ---- how many slots are run
 
-module _ (rows : List Row) {a : RepeatAnswer} (is : a ≡ repeat_of (repeat_length rows)) where
+module _ (rows : List Row) {a : Option Repeat} (is : a ≡ repeat_of (repeat_length rows)) where
   -- H is within its bound
-  pub found : {h : Repeat} → a ≡ Within h → h.0 ≡ repeat_length rows
+  pub found : {h : Repeat} → a ≡ Some h → h.0 ≡ repeat_length rows
   found {h} e = ap (λ (x : Repeat). x.0) (sym (repeat-taken (repeat_length rows) h (sym is ∙ e)).1)
 
   -- H is above its bound
-  pub above : a ≡ Outside → slots_max < repeat_length rows
+  pub above : a ≡ None → slots_max < repeat_length rows
   above e = omega (arith, repeat-refused (repeat_length rows) (repeat_pos rows) (sym is ∙ e))
 
 -- ---- how long the text is
@@ -100,17 +96,22 @@ module _ (tbl : Rules.Table) (a : T (accepts tbl)) (count : ℕ) (few : count �
   formed-after : T (well_formed (after count (fresh tbl)))
   formed-after = run-formed tbl a count (omega arith)
 
-  module _ {s : State} (started : s ≡ pack (fresh tbl)) {r : RunAnswer} {out' : List ℕ} (ran : run_end r out' ≡ run_answer s count out 0) where
+  module _ {s : State} (started : s ≡ pack (fresh tbl)) {r : Result State Refusal} {out' : List ℕ} (ran : run_end r out' ≡ run_answer s count out 0) where
     -- the run is taken
-    ended : run_end r out' ≡ run_end (record { outcome = Taken; state = pack (after count (fresh tbl)) }) (lay out 0 slots)
+    ended : run_end r out' ≡ run_end (Ok (pack (after count (fresh tbl)))) (lay out 0 slots)
     unfolding fresh
     ended =
         ran
         ∙ ap (λ (x : State). run_answer x count out 0) started
         ∙ run-taken (fresh tbl) (fresh-formed tbl a) out 0 count (omega arith) (omega arith)
 
-    pub end_state : r.state ≡ pack (after count (fresh tbl))
-    end_state = ap (λ (x : RunEnd). x.answer.state) ended
+    pub run-ended : r ≡ Ok (pack (after count (fresh tbl)))
+    run-ended = ap (λ (x : RunEnd). x.answer) ended
+
+    pub end_state : {s' : State} → r ≡ Ok s' → s' ≡ pack (after count (fresh tbl))
+    end_state {s'} e =
+        let same : Ok s' ≡ Ok (pack (after count (fresh tbl))) = sym e ∙ run-ended in
+        cc
 
     -- its frames end where the totals begin
     module _ {at : ℕ} (ends : at ≡ count * frame_length tbl.m) where
@@ -121,20 +122,28 @@ module _ (tbl : Rules.Table) (a : T (accepts tbl)) (count : ℕ) (few : count �
       end_length = ap length end_lines.whole ∙ length-lay out 0 slots (omega (arith, length-slots))
 
       -- and the totals of the state at its end come right after them, through the lent tail
-      pub run-written : {w : WriteAnswer} {tail : List ℕ} {s' : State}
-          → made w tail ≡ wrote 51 (mid_of at (length out' - at) out') (asked s' (λ x. write_totals x (mid_of at (length out' - at) out') 0))
-          → s' ≡ pack (after count (fresh tbl))
-          → put_mid at (length out' - at) out' tail ≡ slots ++ totals_line (after count (fresh tbl)) ++ drop (run_length tbl.m count) out
-      run-written {w} {tail} e end_is =
-          let mid : List ℕ = mid_of at (length out' - at) out' in
-          let line : List ℕ = totals_line (after count (fresh tbl)) in
-          let fits : 0 + 51 ≤ length mid = simp (length-take, length-drop) (omega (arith, end_length)) in
-          let laid : made w tail ≡ made (Written 51) (lay mid 0 line) =
-          e
-          ∙ ap (λ (x : State). wrote 51 mid (asked x (λ y. write_totals y mid 0))) end_is
-          ∙ totals-taken (after count (fresh tbl)) formed-after mid 0 fits
-          in
-          let at_front : tail ≡ line ++ drop 51 mid =
-          ap (λ (x : Wrote). x.out) laid ∙ lay-front mid line ∙ ap (λ (k : ℕ). line ++ drop k mid) (length-totals_line (after count (fresh tbl)))
-          in
-          laid-front out (more out end_lines line 51 (length-totals_line (after count (fresh tbl))) (omega arith) at_front) (run_length tbl.m count) (omega arith)
+      module _ {w : Result ℕ Refusal} {tail : List ℕ} {s' : State}
+          (e : made w tail ≡ wrote 51 (mid_of at (length out' - at) out') (asked s' (λ x. write_totals x (mid_of at (length out' - at) out') 0)))
+          (end_is : s' ≡ pack (after count (fresh tbl))) where
+        abbrev mid : List ℕ
+        mid = mid_of at (length out' - at) out'
+
+        abbrev line : List ℕ
+        line = totals_line (after count (fresh tbl))
+
+        laid : made w tail ≡ made (Ok 51) (lay mid 0 line)
+        laid =
+            let fits : 0 + 51 ≤ length mid = simp (length-take, length-drop) (omega (arith, end_length)) in
+            e
+            ∙ ap (λ (x : State). wrote 51 mid (asked x (λ y. write_totals y mid 0))) end_is
+            ∙ totals-taken (after count (fresh tbl)) formed-after mid 0 fits
+
+        pub totals-there : w ≡ Ok 51
+        totals-there = ap (λ (x : Wrote). x.answer) laid
+
+        pub run-written : put_mid at (length out' - at) out' tail ≡ slots ++ line ++ drop (run_length tbl.m count) out
+        run-written =
+            let at_front : tail ≡ line ++ drop 51 mid =
+            ap (λ (x : Wrote). x.out) laid ∙ lay-front mid line ∙ ap (λ (k : ℕ). line ++ drop k mid) (length-totals_line (after count (fresh tbl)))
+            in
+            laid-front out (more out end_lines line 51 (length-totals_line (after count (fresh tbl))) (omega arith) at_front) (run_length tbl.m count) (omega arith)

@@ -4,17 +4,17 @@ use mathlib.Core.Path.{◌≡◌, sym, ap, ◌∙◌}
 use mathlib.Core.List.{List, ◌++◌, append_assoc}
 use native.Mathlib.Omega.{arith}
 use borrow.Rule.Slice.PartMut.{mid_of, put_mid}
-use lib.ListN.{length, drop, length-append, length-take, length-drop}
+use lib.ListN.{length, drop, length-append}
 use Rattle.rules.specs.Tables as Rules
 use Rattle.rules.specs.States.{fresh}
 use Rattle.rules.specs.Runs.{after, slot_lines, totals_line}
 use Rattle.rules.specs.Program.{report}
 use Rattle.tables.specs.Views.{view}
 use Rattle.tables.specs.declared.table.Table.{Table}
-use Rattle.reading_laws.proofs.Laying.{Laid, first, more, laid-front, line_kept}
+use Rattle.reading_laws.proofs.Laying.{Laid, first, more, laid-front}
 use Rattle.machine.specs.Tables.{Opened}
 use Rattle.reports.specs.Heads.{head, head_length}
-use Rattle.reports.specs.Texts.{slots_of, run_lines, run_length, report_length, RunRoom}
+use Rattle.reports.specs.Texts.{slots_of, run_lines, run_length, report_length}
 use Rattle.reports.proofs.Heads.{length-head}
 use Rattle.reports.proofs.Texts.{length-run_lines}
 

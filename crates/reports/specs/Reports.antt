@@ -1,15 +1,13 @@
 -- The program's text for any input, in a lent buffer.
-use Rattle.std.specs.Prelude.{ℕ, ◌≤◌, ◌≡◌, List, ◌++◌, length, drop}
+use Rattle.std.specs.Prelude.{ℕ, ◌≤◌, ◌≡◌, List, ◌++◌, length, drop, Result, Ok, Err}
 use Rattle.rules.specs.Refusals.{Answer, taken, refused}
 use Rattle.rules.specs.Tables as Rules
 use Rattle.rules.specs.Files.{read_file}
 use Rattle.rules.specs.Program.{reply, program}
+use Rattle.rules.specs.declared.refusal.Refused.{Refused}
 use Rattle.tables.specs.Views.{view, table_answer}
 use Rattle.tables.specs.Writes.{Wrote, wrote_text}
 use Rattle.tables.specs.declared.table.Table.{Table}
-use Rattle.tables.specs.declared.table.Outcome.{Outcome}
-use Rattle.tables.specs.declared.table.Outcome.TheVariants as Outcomes
-use Rattle.tables.specs.declared.table.TableAnswer.{TableAnswer}
 
 -- no text is longer: 146 bytes before the slots of 64 tasks, 4,096 frames of 32 cores with 79 bytes each, 51 for the totals
 abbrev pub text_max : ℕ
@@ -25,20 +23,20 @@ pub record Printed (input out : List ℕ) (n : ℕ) (out' : List ℕ) : Type 0 w
   pub text : out' ≡ program input ++ drop (length (program input)) out
 
 -- what the reader's answer says
-abbrev pub said : Outcome → Table → Answer Rules.Table
-said Outcomes.Taken t = taken (view t)
-said (Outcomes.Refused r l) t = refused r l
+abbrev pub said : Result Table Refused → Answer Rules.Table
+said (Ok t) = taken (view t)
+said (Err e) = refused e.refusal e.line
 
 -- the text for it
-unfoldable pub reply_to : TableAnswer → List ℕ
-reply_to a = reply (said a.outcome a.table)
+unfoldable pub reply_to : Result Table Refused → List ℕ
+reply_to a = reply (said a)
 
 -- an answer of the reader
-pub record Answered (a : TableAnswer) : Type 0 where
+pub record Answered (a : Result Table Refused) : Type 0 where
   pub file : List ℕ
   pub is : a ≡ table_answer (read_file file)
 
 -- and a buffer with room for its text
-pub record ReplyRoom (a : TableAnswer) (out : List ℕ) : Type 0 where
+pub record ReplyRoom (a : Result Table Refused) (out : List ℕ) : Type 0 where
   pub answered : Answered a
   pub room : length (reply_to a) ≤ length out

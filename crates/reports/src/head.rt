@@ -7,7 +7,7 @@ ghost use Rattle.tables.specs.Views.{view};
 ghost use Rattle.reports.specs.Heads.{Room, head, head_length};
 
 use tables::table::Table;
-use verdicts::table::VerdictAnswer;
+use verdicts::table::Judgement;
 
 // How many bytes the two frames take.
 pub fn head_length(t: Table) -> usize
@@ -21,11 +21,12 @@ fn write_judgement(out: &mut [u8], t: Table)
     requires { Room t 15 out.old }
     ensures { out.new ≡ verdict_line (view t) ++ drop 15 out.old }
 {
-    let VerdictAnswer::Judged(j) = verdicts::table::verdict(t) else {
-        return;
-    };
-    let verdict = j.verdict;
-    verdicts::lines::write_verdict(out, verdict, j.heavy, j.repeat.0);
+    let Judgement {
+        verdict,
+        heavy,
+        repeat,
+    } = verdicts::table::verdict(t).unwrap();
+    verdicts::lines::write_verdict(out, verdict, heavy, repeat.0);
 }
 
 // Frame `12` at the front of the lent part; nothing after it differs.
@@ -33,9 +34,7 @@ fn write_ranks(out: &mut [u8], t: Table)
     requires { Room t (2 * size (view t) + 3) out.old }
     ensures { out.new ≡ order_line (order (view t)) ++ drop (2 * size (view t) + 3) out.old }
 {
-    let answer = verdicts::table::priority(t);
-    let tasks = answer.ranks;
-    let ranks = verdicts::table::plain(tasks);
+    let ranks = verdicts::table::plain(verdicts::table::priority(t).unwrap());
     let n = tables::repeat::rows_of(t.n);
     verdicts::lines::write_order(out, &ranks[..n]);
 }

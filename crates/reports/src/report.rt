@@ -1,5 +1,5 @@
 // The program's text for any input, from a place of a lent buffer on.
-ghost use Rattle.std.specs.Prelude.{◌≡◌, ◌++◌, min, length, take, drop};
+ghost use Rattle.std.specs.Prelude.{◌≡◌, ◌++◌, length, take, drop};
 ghost use Rattle.rules.specs.Limits.{input_max};
 ghost use Rattle.rules.specs.Files.{read_file};
 ghost use Rattle.tables.specs.Views.{table_answer};
@@ -8,66 +8,52 @@ ghost use Rattle.reports.specs.Reports.{report_of, reply_to, Answered, ReplyRoom
 
 use crate::table::{report_length, write_report};
 use frames::refusal::write_refusal;
-use rules::refusal::Refusal;
-use tables::table::{Outcome, TableAnswer};
-use tables::write::WriteAnswer;
+use rules::refusal::{Refusal, Refused};
+use rules::room::room;
+use tables::table::Table;
 
 // What is read at most, in bytes.
 pub const INPUT_MAX: usize = 2048;
 
 const REFUSAL_LENGTH: usize = 9;
 
-fn least(a: usize, b: usize) -> usize
-    ensures { result ≡ min a b }
-{
-    if a < b { a } else { b }
-}
-
 // The answer to the file that an input is, or to its start where it is too long.
-fn read_input(input: &[u8]) -> TableAnswer
+fn read_input(input: &[u8]) -> Result<Table, Refused>
     ensures { result ≡ table_answer (read_file (take input_max input.now)) }
 {
-    let end = least(input.len(), INPUT_MAX);
-    tables::file::read_file(&input[..end])
+    tables::file::read_file(&input[..input.len().min(INPUT_MAX)])
 }
 
 // How many bytes the text for an answer takes.
-fn reply_length(a: TableAnswer) -> usize
-    requires { Answered a }
-    ensures { result ≡ length (reply_to a) }
+fn reply_length(answer: Result<Table, Refused>) -> usize
+    requires { Answered answer }
+    ensures { result ≡ length (reply_to answer) }
 {
-    let outcome = a.outcome;
-    match outcome {
-        Outcome::Taken => report_length(a.table),
-        Outcome::Refused(_, _) => REFUSAL_LENGTH,
+    match answer {
+        Ok(table) => report_length(table),
+        Err(_) => REFUSAL_LENGTH,
     }
 }
 
 // The text for an answer at the front of the lent part; nothing after it differs.
-fn write_reply(out: &mut [u8], a: TableAnswer)
-    requires { ReplyRoom a out.old }
-    ensures { out.new ≡ reply_to a ++ drop (length (reply_to a)) out.old }
+fn write_reply(out: &mut [u8], answer: Result<Table, Refused>)
+    requires { ReplyRoom answer out.old }
+    ensures { out.new ≡ reply_to answer ++ drop (length (reply_to answer)) out.old }
 {
-    let outcome = a.outcome;
-    match outcome {
-        Outcome::Taken => write_report(out, a.table),
-        Outcome::Refused(r, line) => write_refusal(out, rules::refusal::number(r), line),
+    match answer {
+        Ok(table) => write_report(out, table),
+        Err(refused) => write_refusal(out, refused.refusal, refused.line),
     }
 }
 
 // The text for an input, from a place of the buffer on. No other byte differs, and where there is no room for it none at all: refusal 7,
-// the only one.
-pub fn report(input: &[u8], out: &mut [u8], at: usize) -> WriteAnswer
+// the only one. How many bytes were written is returned.
+pub fn report(input: &[u8], out: &mut [u8], at: usize) -> Result<usize, Refusal>
     ensures { made result out.new ≡ report_of input.now out.old at }
 {
     let answer = read_input(input);
     let size = reply_length(answer);
-    if out.len() < at {
-        return WriteAnswer::Refused(Refusal::NoRoom);
-    }
-    if out.len() - at < size {
-        return WriteAnswer::Refused(Refusal::NoRoom);
-    }
+    room(out.len(), at, size)?;
     write_reply(&mut out[at..], answer);
-    WriteAnswer::Written(size)
+    Ok(size)
 }

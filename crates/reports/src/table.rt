@@ -8,7 +8,6 @@ ghost use Rattle.reports.specs.Texts.{slots_of, run_lines, run_length, report_le
 
 use crate::head::{head_length, write_head};
 use machine::totals::TOTALS_LENGTH;
-use rules::kinds::RepeatAnswer;
 use runs::run::length_of;
 use tables::table::Table;
 
@@ -19,10 +18,10 @@ const SLOTS_MAX: u32 = 4096;
 fn slots_of(t: Table) -> u32
     ensures { result ≡ slots_of (view t) }
 {
-    let RepeatAnswer::Within(h) = tables::repeat::repeat_length(t) else {
-        return SLOTS_MAX;
-    };
-    if h.0 < SLOTS_MAX { h.0 } else { SLOTS_MAX }
+    match tables::repeat::repeat_length(t) {
+        Some(h) => h.0.min(SLOTS_MAX),
+        None => SLOTS_MAX,
+    }
 }
 
 // How many bytes all of the text takes.
@@ -41,9 +40,8 @@ fn write_run(out: &mut [u8], t: Table, count: u32)
 {
     let end = length_of(count, t.m.0);
     let start = machine::fresh::fresh(t);
-    let ran = runs::run::run(start, count, out, 0);
-    let state = ran.state;
-    machine::totals::write_totals(state, &mut out[end..], 0);
+    let state = runs::run::run(start, count, out, 0).unwrap();
+    machine::totals::write_totals(state, &mut out[end..], 0).unwrap();
 }
 
 // All of the text at the front of the lent part; nothing after it differs.

@@ -1,13 +1,17 @@
 -- Each public function's contract permits one outcome alone.
 use Rattle.laws.proofs.Contracts.{One, both}
 use Rattle.rules.proofs.kinds.is_outside.Reads as is-outside
-use Rattle.rules.proofs.kinds.Cores.new.Reads as cores
-use Rattle.rules.proofs.kinds.Tasks.new.Reads as tasks
-use Rattle.rules.proofs.kinds.Period.new.Reads as period
-use Rattle.rules.proofs.kinds.Repeat.new.Reads as repeat
-use Rattle.rules.proofs.kinds.Slot.new.Reads as slot
-use Rattle.rules.proofs.refusal.number.Reads as number
-use Rattle.rules.proofs.verdict.byte.Reads as byte
+use Rattle.rules.proofs.kinds.CoresKind.new.Reads as cores
+use Rattle.rules.proofs.kinds.TasksKind.new.Reads as tasks
+use Rattle.rules.proofs.kinds.PeriodKind.new.Reads as period
+use Rattle.rules.proofs.kinds.RepeatKind.new.Reads as repeat
+use Rattle.rules.proofs.kinds.SlotKind.new.Reads as slot
+use Rattle.rules.proofs.refusal.U8FromRefusal.from.Reads as number
+use Rattle.rules.proofs.refusal.Refusal.at.Reads as at
+use Rattle.rules.proofs.refusal.RefusalFromRefused.from.Reads as refusal
+use Rattle.rules.proofs.frame_type.U8FromFrameType.from.Reads as type
+use Rattle.rules.proofs.room.room.Reads as room
+use Rattle.rules.proofs.verdict.U8FromVerdict.from.Reads as byte
 
 pub is_outside_once : One is-outside.Post (λ κs r s. r)
 is_outside_once κs a x y s t p q = both p q
@@ -32,3 +36,15 @@ number_once κs a x y s t p q = both p q
 
 pub byte_once : One byte.Post (λ κs r s. r)
 byte_once κs a x y s t p q = both p q
+
+pub type_once : One type.Post (λ κs r s. r)
+type_once κs a x y s t p q = both p q
+
+pub refusal_once : One refusal.Post (λ κs r s. r)
+refusal_once κs a x y s t p q = both p q
+
+pub at_once : One at.Post (λ κs r s. r)
+at_once κs a x y s t p q = both p q
+
+pub room_once : One room.Post (λ κs r s. r)
+room_once κs a x y s t p q = both p q

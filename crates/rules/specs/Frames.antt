@@ -3,9 +3,21 @@ use Rattle.std.specs.Prelude.{ℕ, cond, List, [], ◌∷◌, ◌++◌, eqb, leb
 use Rattle.std.proofs.Math.Option.{Option, none, some}
 use Rattle.laws.specs.Options.{then}
 use Rattle.laws.specs.Digits.{field, value}
+use Rattle.rules.specs.declared.frame_type.FrameType.{FrameType}
+use Rattle.rules.specs.declared.frame_type.FrameType.TheVariants.{Header, Row, Verdict, Order, Slot, Totals, Refusal}
 
 abbrev pub line_feed : ℕ
 line_feed = 10
+
+-- the numbers of the types of frame
+abbrev pub type_number : FrameType → ℕ
+type_number Header = 0x01
+type_number Row = 0x02
+type_number Verdict = 0x11
+type_number Order = 0x12
+type_number Slot = 0x13
+type_number Totals = 0x14
+type_number Refusal = 0x1f
 
 -- a frame's type, and how many digits each of its fields has
 pub record Shape : Type 0 where
@@ -14,31 +26,31 @@ pub record Shape : Type 0 where
 
 -- `01`, m, n: header
 abbrev pub header : Shape
-header = record { type = 0x01; widths = 2 ∷ 2 ∷ [] }
+header = record { type = type_number Header; widths = 2 ∷ 2 ∷ [] }
 
 -- `02`, C, T: one row
 abbrev pub row : Shape
-row = record { type = 0x02; widths = 4 ∷ 4 ∷ [] }
+row = record { type = type_number Row; widths = 4 ∷ 4 ∷ [] }
 
 -- `11`, verdict, number of heavy tasks, H
 abbrev pub verdict : Shape
-verdict = record { type = 0x11; widths = 2 ∷ 2 ∷ 8 ∷ [] }
+verdict = record { type = type_number Verdict; widths = 2 ∷ 2 ∷ 8 ∷ [] }
 
 -- `12`, n task numbers
 abbrev pub order : ℕ → Shape
-order n = record { type = 0x12; widths = replicate n 2 }
+order n = record { type = type_number Order; widths = replicate n 2 }
 
 -- `13`, slot, the task on core 1 to core m, moves, misses
 abbrev pub slot : ℕ → Shape
-slot m = record { type = 0x13; widths = 8 ∷ replicate m 2 ++ (2 ∷ 2 ∷ []) }
+slot m = record { type = type_number Slot; widths = 8 ∷ replicate m 2 ++ (2 ∷ 2 ∷ []) }
 
 -- `14`, total moves, misses, dropped units
 abbrev pub totals : Shape
-totals = record { type = 0x14; widths = 16 ∷ 16 ∷ 16 ∷ [] }
+totals = record { type = type_number Totals; widths = 16 ∷ 16 ∷ 16 ∷ [] }
 
 -- `1f`, refusal, line
 abbrev pub refusal : Shape
-refusal = record { type = 0x1f; widths = 2 ∷ 4 ∷ [] }
+refusal = record { type = type_number Refusal; widths = 2 ∷ 4 ∷ [] }
 
 -- numbers in fields of the widths given, one after the other
 unfoldable pub fields : List ℕ → List ℕ → List ℕ

@@ -1,6 +1,7 @@
 -- Document 01 as definitions, in its own order.
 pub mod Limits
 pub mod Refusals
+pub mod Results
 pub mod Rows
 pub mod Repeat
 pub mod Tables

@@ -1,155 +1,154 @@
 // Counts of different things are of different types: slots (instants of time) apart from units of execution, task and
 // core numbers apart from both. Each bound stands here once, as a constant of the kind that it bounds, and a number from
 // outside becomes one of these only through the constructor that tests it.
-ghost use Rattle.std.specs.Prelude.{◌≡◌};
+ghost use Rattle.std.specs.Prelude.{◌≡◌, ℕ};
+ghost use Rattle.rules.specs.Limits.{cores_min, cores_max, tasks_min, tasks_max, period_max, repeat_max, clock_max};
 ghost use Rattle.rules.specs.Tables.{outside};
-ghost use Rattle.rules.specs.Kinds.{cores_of, tasks_of, period_of, repeat_of, slot_of};
+ghost use Rattle.rules.specs.Kinds.{within};
 
 // Whether x is below low or above high.
 pub fn is_outside(x: u32, low: u32, high: u32) -> bool
     ensures { result ≡ outside x low high }
 {
-    x < low || high < x
+    !(low..=high).contains(&x)
+}
+
+// A kind of number with bounds.
+pub trait Kind: Sized {
+    ghost MIN: { ℕ };
+
+    ghost MAX: { ℕ };
+
+    ghost of: { ℕ → Self };
+
+    const MIN: u32;
+
+    const MAX: u32;
+
+    // A number as one of this kind, tested or not.
+    fn of(x: u32) -> Self
+        ensures { result ≡ of x };
+
+    // A number from outside, if it lies within the bounds.
+    fn new(x: u32) -> Option<Self>
+        ensures { result ≡ within MIN MAX of x }
+    {
+        if is_outside(x, Self::MIN, Self::MAX) {
+            None
+        } else {
+            Some(Self::of(x))
+        }
+    }
 }
 
 // How many cores there are: m.
-#[derive(Clone, Copy)]
+#[derive(Clone, Copy, PartialEq, Eq)]
 pub struct Cores(pub u32);
 
-#[derive(Clone, Copy)]
-pub enum CoresAnswer {
-    Within(Cores),
-    Outside,
-}
+impl Kind for Cores {
+    ghost MIN = { cores_min };
 
-impl Cores {
-    pub const MIN: u32 = 2;
+    ghost MAX = { cores_max };
 
-    pub const MAX: u32 = 32;
+    ghost of = { λ m. record { 0 = m } };
 
-    pub fn new(m: u32) -> CoresAnswer
-        ensures { result ≡ cores_of m }
-    {
-        if is_outside(m, Cores::MIN, Cores::MAX) {
-            CoresAnswer::Outside
-        } else {
-            CoresAnswer::Within(Cores(m))
-        }
+    const MIN: u32 = 2;
+
+    const MAX: u32 = 32;
+
+    fn of(m: u32) -> Cores {
+        Cores(m)
     }
 }
 
 // How many tasks there are: n. They are numbered from 1 in table order.
-#[derive(Clone, Copy)]
+#[derive(Clone, Copy, PartialEq, Eq)]
 pub struct Tasks(pub u32);
 
-#[derive(Clone, Copy)]
-pub enum TasksAnswer {
-    Within(Tasks),
-    Outside,
-}
+impl Kind for Tasks {
+    ghost MIN = { tasks_min };
 
-impl Tasks {
-    pub const MIN: u32 = 1;
+    ghost MAX = { tasks_max };
 
-    pub const MAX: u32 = 64;
+    ghost of = { λ n. record { 0 = n } };
 
-    pub fn new(n: u32) -> TasksAnswer
-        ensures { result ≡ tasks_of n }
-    {
-        if is_outside(n, Tasks::MIN, Tasks::MAX) {
-            TasksAnswer::Outside
-        } else {
-            TasksAnswer::Within(Tasks(n))
-        }
+    const MIN: u32 = 1;
+
+    const MAX: u32 = 64;
+
+    fn of(n: u32) -> Tasks {
+        Tasks(n)
     }
 }
 
 // A period T, in slots.
-#[derive(Clone, Copy)]
+#[derive(Clone, Copy, PartialEq, Eq)]
 pub struct Period(pub u32);
 
-#[derive(Clone, Copy)]
-pub enum PeriodAnswer {
-    Within(Period),
-    Outside,
-}
+impl Kind for Period {
+    ghost MIN = { 1 };
 
-impl Period {
-    pub const MIN: u32 = 1;
+    ghost MAX = { period_max };
 
-    pub const MAX: u32 = 65_535;
+    ghost of = { λ t. record { 0 = t } };
 
-    pub fn new(t: u32) -> PeriodAnswer
-        ensures { result ≡ period_of t }
-    {
-        if is_outside(t, Period::MIN, Period::MAX) {
-            PeriodAnswer::Outside
-        } else {
-            PeriodAnswer::Within(Period(t))
-        }
+    const MIN: u32 = 1;
+
+    const MAX: u32 = 65_535;
+
+    fn of(t: u32) -> Period {
+        Period(t)
     }
 }
 
 // A repeat length H, in slots.
-#[derive(Clone, Copy)]
+#[derive(Clone, Copy, PartialEq, Eq)]
 pub struct Repeat(pub u32);
 
-#[derive(Clone, Copy)]
-pub enum RepeatAnswer {
-    Within(Repeat),
-    Outside,
-}
+impl Kind for Repeat {
+    ghost MIN = { 1 };
 
-impl Repeat {
-    pub const MIN: u32 = 1;
+    ghost MAX = { repeat_max };
 
-    pub const MAX: u32 = 1_000_000_000;
+    ghost of = { λ h. record { 0 = h } };
 
-    pub fn new(h: u32) -> RepeatAnswer
-        ensures { result ≡ repeat_of h }
-    {
-        if is_outside(h, Repeat::MIN, Repeat::MAX) {
-            RepeatAnswer::Outside
-        } else {
-            RepeatAnswer::Within(Repeat(h))
-        }
+    const MIN: u32 = 1;
+
+    const MAX: u32 = 1_000_000_000;
+
+    fn of(h: u32) -> Repeat {
+        Repeat(h)
     }
 }
 
 // An instant of time: a slot, or the boundary before it. The clock is one.
-#[derive(Clone, Copy)]
+#[derive(Clone, Copy, PartialEq, Eq)]
 pub struct Slot(pub u32);
 
-#[derive(Clone, Copy)]
-pub enum SlotAnswer {
-    Within(Slot),
-    Outside,
-}
+impl Kind for Slot {
+    ghost MIN = { 0 };
 
-impl Slot {
-    pub const MIN: u32 = 0;
+    ghost MAX = { clock_max };
 
-    pub const MAX: u32 = 1_000_000_000;
+    ghost of = { λ s. record { 0 = s } };
 
-    pub fn new(s: u32) -> SlotAnswer
-        ensures { result ≡ slot_of s }
-    {
-        if is_outside(s, Slot::MIN, Slot::MAX) {
-            SlotAnswer::Outside
-        } else {
-            SlotAnswer::Within(Slot(s))
-        }
+    const MIN: u32 = 0;
+
+    const MAX: u32 = 1_000_000_000;
+
+    fn of(s: u32) -> Slot {
+        Slot(s)
     }
 }
 
 // Units of execution: what a job asks for, was given, or lost.
-#[derive(Clone, Copy)]
+#[derive(Clone, Copy, PartialEq, Eq)]
 pub struct Units(pub u64);
 
 // The number of a task, from 1 in table order.
-#[derive(Clone, Copy)]
+#[derive(Clone, Copy, PartialEq, Eq)]
 pub struct TaskNumber(pub u8);
 
 // The number of a core, from 1; 0 for none.
-#[derive(Clone, Copy)]
+#[derive(Clone, Copy, PartialEq, Eq)]
 pub struct CoreNumber(pub u8);

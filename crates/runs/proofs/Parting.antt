@@ -1,13 +1,13 @@
 -- The walks along the tasks that take a state apart and put it together.
 use Prim.Native.Nat.{ℕ, ◌+◌, ◌-◌, ◌^◌, ◌%◌, ◌≤◌, ◌<◌, zero-le}
 use mathlib.Core.Path.{◌≡◌, refl, sym, ap, ◌∙◌}
+use mathlib.Core.Bool.{true}
 use mathlib.Core.List.{List, ◌∷◌, ◌++◌, map, map-map, map-id}
 use native.Mathlib.Omega.{arith}
 use lib.Dec.{T}
 use lib.ListN.{length, get_or, take, drop, set, replicate, length-map}
 use lib.Seq.{length-take-le}
 use Rattle.laws.specs.Lists.{at}
-use Rattle.laws.proofs.Tests.{of_T}
 use Rattle.laws.proofs.Filters.{map-from-get_or}
 use Rattle.laws.proofs.Tails.{drop-replicate}
 use Rattle.laws.proofs.Copying.{copied, copied_turn}
@@ -55,12 +55,12 @@ module _ {A : Type 0} (make : ℕ → A) where
 
 -- ---- a well formed struct
 
-module _ (s : State) (f : T (formed s)) where
+module _ (s : State) (f : formed s ≡ true) where
   pub padded_of : T (padded s)
-  padded_of = (formed-says s (of_T (formed s) f)).0
+  padded_of = (formed-says s f).0
 
   pub formed_of : T (well_formed (view s))
-  formed_of = (formed-says s (of_T (formed s) f)).1
+  formed_of = (formed-says s f).1
 
   pub few_tasks : tasks s ≤ tasks_max
   few_tasks = padded-few s padded_of
@@ -110,7 +110,7 @@ pub record Parting (s : State) (c t ranks phase left last done dropped : List �
   pub dones : Copy (λ (x : Units). x.0) s.done zeros done i
   pub drops : Copy (λ (x : Units). x.0) s.dropped zeros dropped i
 
-pub start : (s : State) → T (formed s) → Full s → Parting s zeros zeros zeros zeros zeros zeros zeros zeros 0
+pub start : (s : State) → formed s ≡ true → Full s → Parting s zeros zeros zeros zeros zeros zeros zeros zeros 0
 start s f full =
     record {
       full = full;
@@ -127,12 +127,12 @@ start s f full =
     }
 
 module _ {s : State} {c t ranks phase left last done dropped : List ℕ} {i : ℕ} (g : Parting s c t ranks phase left last done dropped i) where
-  pub turn : i < tasks s → {p l d x : ℕ} → p ≡ s.clock.0 % (get_or s.table.rows i Tables.zero_row).t → l ≡ (get_or s.left i (units 0)).0
-      → d ≡ (get_or s.done i (units 0)).0 → x ≡ (get_or s.dropped i (units 0)).0
+  pub turn : i < tasks s
       → Parting s (set c i (get_or s.table.rows i Tables.zero_row).c) (set t i (get_or s.table.rows i Tables.zero_row).t)
-      (set ranks i (get_or s.ranks i (task_number 0)).0) (set phase i p) (set left i l) (set last i (get_or s.last i (core_number 0)).0)
-      (set done i d) (set dropped i x) (i + 1)
-  turn more ep el ed ex =
+      (set ranks i (get_or s.ranks i (task_number 0)).0) (set phase i (s.clock.0 % (get_or s.table.rows i Tables.zero_row).t))
+      (set left i (get_or s.left i (units 0)).0) (set last i (get_or s.last i (core_number 0)).0)
+      (set done i (get_or s.done i (units 0)).0) (set dropped i (get_or s.dropped i (units 0)).0) (i + 1)
+  turn more =
       let few : i < tasks_max = omega (arith, g.few) in
       record {
         full = g.full;
@@ -141,11 +141,11 @@ module _ {s : State} {c t ranks phase left last done dropped : List ℕ} {i : �
         cs = copy_turn _ g.cs Tables.zero_row 0 few;
         ts = copy_turn _ g.ts Tables.zero_row 0 few;
         ranked = copy_turn _ g.ranked (task_number 0) 0 few;
-        phases = rw ep (copy_turn _ g.phases Tables.zero_row 0 few);
-        lefts = rw el (copy_turn _ g.lefts (units 0) 0 few);
+        phases = copy_turn _ g.phases Tables.zero_row 0 few;
+        lefts = copy_turn _ g.lefts (units 0) 0 few;
         lasts = copy_turn _ g.lasts (core_number 0) 0 few;
-        dones = rw ed (copy_turn _ g.dones (units 0) 0 few);
-        drops = rw ex (copy_turn _ g.drops (units 0) 0 few);
+        dones = copy_turn _ g.dones (units 0) 0 few;
+        drops = copy_turn _ g.drops (units 0) 0 few;
       }
 
   module _ (h : tasks s ≤ i) where

@@ -24,10 +24,9 @@ use Rattle.machine.specs.Views.{tasks, task_number, core_number, units, packed, 
 use Rattle.machine.specs.declared.state.State.{State}
 use Rattle.machine.proofs.Viewing.{length-viewed, size-view}
 use Rattle.machine.proofs.Packing.{pack-view}
-use Rattle.verdicts.specs.Columns.{rows_of, table_of}
 use Rattle.runs.specs.declared.parts.Parts.{Parts}
 use Rattle.runs.specs.Parts.{plain, parts_of, joined}
-use Rattle.runs.specs.Slots.{state_of, frame_length, Runnable, RanSlots}
+use Rattle.runs.specs.Slots.{rows_of, table_of, state_of, frame_length, Runnable, RanSlots}
 use Rattle.runs.specs.Answers.{Open, RunFormed}
 use Rattle.runs.proofs.Parting.{padded_of, formed_of, few_tasks}
 

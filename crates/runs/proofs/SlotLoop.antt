@@ -6,7 +6,7 @@ use native.Mathlib.Nat.{mul_comm, mul-le-mul_right}
 use native.Mathlib.Numerals.{add-one}
 use native.Mathlib.Omega.{arith}
 use borrow.Rule.Slice.PartMut.{put_mid}
-use lib.ListN.{length, take, drop, replicate, length-append, length-map, length-take, length-drop}
+use lib.ListN.{length, take, drop, replicate, length-append, length-map}
 use lib.Seq.{take-nil, take_at, length-take-le}
 use Rattle.laws.specs.Lists.{at}
 use Rattle.rules.specs.Limits.{cores_max}
@@ -20,13 +20,12 @@ use Rattle.slot_laws.proofs.After.{after-suc, after_table}
 use Rattle.slot_laws.proofs.Forms.{Kept, formed-kept}
 use Rattle.slot_laws.proofs.Books.{slot_kept, after_kept}
 use Rattle.slot_laws.proofs.Lengths.{length-slot_line, slot_width}
-use Rattle.reading_laws.proofs.Laying.{Pieces, no_piece, piece_fits, next_piece, all_pieces}
+use Rattle.reading_laws.proofs.Laying.{Pieces, no_piece, next_piece, all_pieces}
 use Rattle.frames.specs.Slots.{shown_as}
 use Rattle.engine.specs.Placing.{Idle}
 use Rattle.engine.specs.Step.{Stepped, stepped, released_on, step_on, Ready, units_of, periods_of, phases_in, step_from, lists_of}
 use Rattle.engine.proofs.Steps.{release-size, ready, released_on_lem, withheld_on, step_slot}
-use Rattle.verdicts.specs.Columns.{rows_of, table_of}
-use Rattle.runs.specs.Slots.{state_of, frame_length, Runnable, RanSlots}
+use Rattle.runs.specs.Slots.{rows_of, table_of, state_of, frame_length, Runnable, RanSlots}
 
 -- ---- the columns of a table
 

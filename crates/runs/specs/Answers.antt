@@ -1,5 +1,5 @@
 -- The answer to a run, as the structs give it.
-use Rattle.std.specs.Prelude.{ℕ, ◌+◌, ◌*◌, ◌≤◌, ◌≡◌, List, ◌++◌, T, length, drop}
+use Rattle.std.specs.Prelude.{ℕ, ◌+◌, ◌*◌, ◌≤◌, ◌≡◌, true, List, ◌++◌, length, drop, Result, Ok, Err}
 use Rattle.rules.specs.Limits.{clock_max}
 use Rattle.rules.specs.Refusals.{Answer, taken, refused}
 use Rattle.rules.specs.Runs.{after, slot_lines}
@@ -9,12 +9,10 @@ use Rattle.machine.specs.Views.{view, pack, formed}
 use Rattle.machine.specs.Answers.{asked}
 use Rattle.machine.specs.declared.state.State.{State}
 use Rattle.runs.specs.Slots.{frame_length}
-use Rattle.runs.specs.declared.run.RunAnswer.{RunAnswer}
-use Rattle.runs.specs.declared.run.RunOutcome.TheVariants.{Taken, Refused}
 
 -- what a run asks that is not refused
 pub record Open (s : State) (count : ℕ) (out : List ℕ) : Type 0 where
-  pub good : T (formed s)
+  pub good : formed s ≡ true
   pub in_time : s.clock.0 + count ≤ clock_max
   pub room : count * frame_length s.table.m.0 ≤ length out
 
@@ -23,23 +21,19 @@ pub record RunFormed (s : State) (count : ℕ) (out : List ℕ) (s' : State) (ou
   pub state : s' ≡ pack (after count (view s))
   pub lines : out' ≡ slot_lines count (view s) ++ drop (count * frame_length s.table.m.0) out
 
--- an answer with its state, and the buffer
+-- the state at the end or the refusal, and the buffer
 pub record RunEnd : Type 0 where
-  pub answer : RunAnswer
+  pub answer : Result State Refusal
   pub out : List ℕ
 
-abbrev pub run_end : RunAnswer → List ℕ → RunEnd
+abbrev pub run_end : Result State Refusal → List ℕ → RunEnd
 run_end a out = record { answer = a; out = out }
 
--- a refusal gives back the state that was given
-abbrev pub refused_run : State → Refusal → RunAnswer
-refused_run s r = record { outcome = Refused r; state = s }
-
--- where the run is refused, the state and the buffer are as they were
-abbrev pub ended : State → List ℕ → Answer Ran → RunEnd
-ended s out (taken ran) = run_end (record { outcome = Taken; state = pack ran.state }) ran.out
-ended s out (refused r l) = run_end (refused_run s r) out
+-- where the run is refused, the buffer is as it was
+abbrev pub ended : List ℕ → Answer Ran → RunEnd
+ended out (taken ran) = run_end (Ok (pack ran.state)) ran.out
+ended out (refused r l) = run_end (Err r) out
 
 -- what the rules answer of the state that the struct says
 unfoldable pub run_answer : State → ℕ → List ℕ → ℕ → RunEnd
-run_answer s count out place = ended s out (asked s (λ st. run_slots st count out place))
+run_answer s count out place = ended out (asked s (λ st. run_slots st count out place))

@@ -1,11 +1,21 @@
 -- A run on lists of plain numbers, one entry a task: the state that they say, and what a run asks and leaves.
-use Rattle.std.specs.Prelude.{ℕ, ◌+◌, ◌*◌, ◌≤◌, ◌≡◌, List, ◌++◌, T, length, drop}
+use Rattle.std.specs.Prelude.{ℕ, ◌+◌, ◌*◌, ◌≤◌, ◌≡◌, List, [], ◌∷◌, ◌++◌, T, length, drop}
 use Rattle.rules.specs.Limits.{clock_max}
+use Rattle.rules.specs.Rows.{Row}
+use Rattle.rules.specs.Tables.{Table}
 use Rattle.rules.specs.States.{State}
 use Rattle.rules.specs.Forms.{well_formed}
 use Rattle.rules.specs.Runs.{after, slot_lines}
-use Rattle.verdicts.specs.Columns.{table_of}
 use Rattle.engine.specs.Step.{phases_in}
+
+-- the rows of two lists, the executions and the periods
+unfoldable pub rows_of : List ℕ → List ℕ → List Row
+rows_of [] ts = []
+rows_of (c ∷ cs) [] = []
+rows_of (c ∷ cs) (t ∷ ts) = record { c = c; t = t } ∷ rows_of cs ts
+
+abbrev pub table_of : ℕ → List ℕ → List ℕ → Table
+table_of m cs ts = record { m = m; rows = rows_of cs ts }
 
 -- the state that the lists say
 abbrev pub state_of : ℕ → ℕ → List ℕ → List ℕ → List ℕ → List ℕ → List ℕ → List ℕ → List ℕ → ℕ → ℕ → State

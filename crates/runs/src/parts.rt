@@ -1,5 +1,5 @@
 // A state taken apart into arrays of plain numbers before a run, and put together after it: once a run, for the tasks alone.
-ghost use Rattle.std.specs.Prelude.{◌≡◌, ◌≤◌, ◌<◌, ◌^◌, ◌%◌, T};
+ghost use Rattle.std.specs.Prelude.{◌≡◌, true, ◌≤◌};
 ghost use Rattle.rules.specs.Limits.{tasks_max};
 ghost use Rattle.machine.specs.Views.{view, formed};
 ghost use Rattle.runs.specs.Parts.{parts_of, joined};
@@ -21,28 +21,9 @@ pub struct Parts {
     pub dropped: [u32; 64],
 }
 
-fn narrow(u: Units) -> u32
-    requires { u.0 < 2 ^ 32 }
-    ensures { result ≡ u.0 }
-{
-    u.0 as u32
-}
-
-fn wide(units: u32) -> u64
-    ensures { result ≡ units }
-{
-    units as u64
-}
-
-fn phase_of(clock: u32, t: u32) -> u32
-    requires { 1 ≤ t }
-    ensures { result ≡ clock % t }
-{
-    clock % t
-}
-
+// Units of a task of a well-formed state are at most what was released of it, which fits 32 bits.
 pub fn apart(s: State) -> Parts
-    requires { T (formed s) }
+    requires { formed s ≡ true }
     ensures { result ≡ parts_of (view s) }
 {
     let mut c = [0u32; 64];
@@ -56,18 +37,16 @@ pub fn apart(s: State) -> Parts
     let table = s.table;
     let n = table.n.0 as usize;
     let clock = s.clock.0;
-    let mut i = 0;
-    while i < n {
+    for i in 0..n {
         let row = table.rows[i];
         c[i] = row.c;
         t[i] = row.t;
         ranks[i] = s.ranks[i].0;
-        phase[i] = phase_of(clock, row.t);
-        left[i] = narrow(s.left[i]);
+        phase[i] = clock % row.t;
+        left[i] = s.left[i].0 as u32;
         last[i] = s.last[i].0;
-        done[i] = narrow(s.done[i]);
-        dropped[i] = narrow(s.dropped[i]);
-        i += 1;
+        done[i] = s.done[i].0 as u32;
+        dropped[i] = s.dropped[i].0 as u32;
     }
     Parts {
         c,
@@ -101,13 +80,11 @@ pub fn together(
     let table = s.table;
     let ranks = s.ranks;
     let n = table.n.0 as usize;
-    let mut i = 0;
-    while i < n {
-        lefts[i] = Units(wide(left[i]));
+    for i in 0..n {
+        lefts[i] = Units(u64::from(left[i]));
         lasts[i] = CoreNumber(last[i]);
-        dones[i] = Units(wide(done[i]));
-        drops[i] = Units(wide(dropped[i]));
-        i += 1;
+        dones[i] = Units(u64::from(done[i]));
+        drops[i] = Units(u64::from(dropped[i]));
     }
     State {
         table,

@@ -3,27 +3,15 @@
 ghost use Rattle.std.specs.Prelude.{◌≡◌, ◌+◌, ◌*◌, ◌≤◌, ltb};
 ghost use Rattle.rules.specs.Limits.{cores_max, clock_max};
 ghost use Rattle.runs.specs.Slots.{frame_length};
-ghost use Rattle.runs.specs.Answers.{Open, RunFormed, refused_run, run_end, run_answer};
+ghost use Rattle.runs.specs.Answers.{Open, RunFormed, run_end, run_answer};
 
-use crate::parts::{apart, together};
+use crate::parts::{Parts, apart, together};
 use crate::slots::{Totals, frame_length, run_slots};
 use machine::form::is_formed;
 use machine::state::State;
-use rules::kinds::Slot;
+use rules::kinds::{Kind, Slot};
 use rules::refusal::Refusal;
-
-#[derive(Clone, Copy)]
-pub enum RunOutcome {
-    Taken,
-    Refused(Refusal),
-}
-
-// On a refusal the state is the one that was given.
-#[derive(Clone, Copy)]
-pub struct RunAnswer {
-    pub outcome: RunOutcome,
-    pub state: State,
-}
+use rules::room::room;
 
 // The clock would pass its bound.
 fn is_past(clock: u32, count: u32) -> bool
@@ -41,17 +29,6 @@ pub fn length_of(count: u32, m: u32) -> usize
     (count as usize) * frame_length(m as usize)
 }
 
-// The part of a buffer from a place on is too short for so many bytes, or the place lies past the buffer's end.
-fn is_short(length: usize, at: usize, bytes: usize) -> bool
-    ensures { result ≡ ltb length (at + bytes) }
-{
-    if length < at {
-        true
-    } else {
-        length - at < bytes
-    }
-}
-
 // The run itself, of a state that passed the tests, with its frames from the front of `out` on.
 #[tactic(auto, using(crate::proofs::Running::long_arrays))]
 fn run_formed(s: State, count: u32, out: &mut [u8]) -> State
@@ -62,15 +39,16 @@ fn run_formed(s: State, count: u32, out: &mut [u8]) -> State
     let n = table.n.0 as usize;
     let m = table.m.0 as usize;
     let clock = s.clock.0;
-    let parts = apart(s);
-    let c = parts.c;
-    let t = parts.t;
-    let ranks = parts.ranks;
-    let mut phase = parts.phase;
-    let mut left = parts.left;
-    let mut last = parts.last;
-    let mut done = parts.done;
-    let mut dropped = parts.dropped;
+    let Parts {
+        c,
+        t,
+        ranks,
+        mut phase,
+        mut left,
+        mut last,
+        mut done,
+        mut dropped,
+    } = apart(s);
     let before = Totals {
         moves: s.moves,
         misses: s.misses,
@@ -93,38 +71,23 @@ fn run_formed(s: State, count: u32, out: &mut [u8]) -> State
     together(s, clock + count, left, last, done, dropped, totals)
 }
 
-fn refused(s: State, r: Refusal) -> RunAnswer
-    ensures { result ≡ refused_run s r }
-{
-    RunAnswer {
-        outcome: RunOutcome::Refused(r),
-        state: s,
-    }
-}
-
-// One frame for each slot, each right after the last, from the place on; no other byte differs.
-pub fn run(s: State, count: u32, out: &mut [u8], at: usize) -> RunAnswer
+// One frame for each slot, each right after the last, from the place on; no other byte differs, and on a refusal none at all. The state
+// after the run is returned.
+pub fn run(s: State, count: u32, out: &mut [u8], at: usize) -> Result<State, Refusal>
     ensures { run_end result out.new ≡ run_answer s count out.old at }
 {
     if !is_formed(s) {
-        return refused(s, Refusal::BadState);
+        return Err(Refusal::BadState);
     }
-    let late = is_past(s.clock.0, count);
-    let short = is_short(out.len(), at, length_of(count, s.table.m.0));
-    if late {
-        return refused(s, Refusal::PastClock);
+    if is_past(s.clock.0, count) {
+        return Err(Refusal::PastClock);
     }
-    if short {
-        return refused(s, Refusal::NoRoom);
-    }
-    RunAnswer {
-        outcome: RunOutcome::Taken,
-        state: run_formed(s, count, &mut out[at..]),
-    }
+    room(out.len(), at, length_of(count, s.table.m.0))?;
+    Ok(run_formed(s, count, &mut out[at..]))
 }
 
 // A run of one slot.
-pub fn step(s: State, out: &mut [u8], at: usize) -> RunAnswer
+pub fn step(s: State, out: &mut [u8], at: usize) -> Result<State, Refusal>
     ensures { run_end result out.new ≡ run_answer s 1 out.old at }
 {
     run(s, 1, out, at)

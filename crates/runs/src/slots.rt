@@ -5,7 +5,7 @@ ghost use Rattle.runs.specs.Slots.{state_of, frame_length, Runnable, RanSlots};
 
 use engine::release::release;
 use engine::slot::slot;
-use frames::names::names;
+use frames::names::Names;
 use frames::slot::write_slot;
 
 // The total moves and misses.
@@ -47,13 +47,12 @@ pub fn run_slots(
     let width = frame_length(m);
     let n = left.len();
     let none = [0u32; 64];
-    let names = names();
+    let names = Names::new();
     let mut moves = totals.moves;
     let mut misses = totals.misses;
     let mut place = 0;
-    let mut k = 0;
     release(left, phase, c);
-    while k < count {
+    for k in 0..count {
         let mut cores = [0u8; 32];
         let shown = slot(
             c,
@@ -74,10 +73,9 @@ pub fn run_slots(
             shown.misses,
             &names,
         );
-        moves += shown.moves as u64;
-        misses += shown.misses as u64;
+        moves += u64::from(shown.moves);
+        misses += u64::from(shown.misses);
         place += width;
-        k += 1;
     }
     // The last slot's end has released the jobs of the next. Their tasks have ended their jobs before, so no units are left.
     release(left, phase, &none[..n]);

@@ -8,7 +8,6 @@ ghost use Rattle.reports.specs.Reports.{text_max, Printed};
 use reports::report::INPUT_MAX;
 use std::io;
 use std::io::Read;
-use tables::write::WriteAnswer;
 
 // No text is longer.
 const TEXT_MAX: usize = 323781;
@@ -18,10 +17,7 @@ fn text(input: &[u8], out: &mut [u8]) -> usize
     requires { text_max ≤ length out.old }
     ensures { Printed input.now out.old result out.new }
 {
-    match reports::report::report(input, out, 0) {
-        WriteAnswer::Written(size) => size,
-        WriteAnswer::Refused(_) => 0,
-    }
+    reports::report::report(input, out, 0).unwrap()
 }
 
 // Reads until the buffer is full or the input ends, and returns how many bytes stand at its front now: those that the reader gave.

@@ -1,5 +1,6 @@
 -- The round trips of the structs: a state that was stored is loaded as the same struct, and a state that was loaded is stored as
 -- the same bytes.
+use Rattle.std.proofs.Common.{Ok}
 use Prim.Native.Nat.{ℕ}
 use mathlib.Core.Path.{◌≡◌, refl, ap, ◌∙◌}
 use mathlib.Core.Bool.{true}
@@ -17,32 +18,23 @@ use Rattle.machine.proofs.Packing.{pack-view, view-pack}
 use Rattle.machine.proofs.Packed.{kept-sized, struct_formed}
 use Rattle.stored.specs.Layout.{store, load}
 use Rattle.stored.specs.Answers.{state_answer}
-use Rattle.stored.specs.declared.load.Outcome.TheVariants.{Taken, Refused}
-use Rattle.stored.specs.declared.load.StateAnswer.{StateAnswer}
 use Rattle.stored.proofs.Numbers.{Bytes}
 use Rattle.stored.proofs.Round.{stored_loads, loaded_stores}
 
--- the answer that takes a struct
-abbrev pub takes : State → StateAnswer
-takes s = record { outcome = Taken; state = s }
-
 -- what is stored of a well-formed struct is loaded as that struct
-pub struct_back : (s : State) → Full s → T (formed s) → state_answer (load (store (view s))) ≡ takes s
-unfolding state_answer formed
+pub struct_back : (s : State) → Full s → T (formed s) → state_answer (load (store (view s))) ≡ Ok s
+unfolding formed
 struct_back s full good =
     rw (stored_loads (view s) (and_right (padded s) (well_formed (view s)) good))
-    (ap takes (pack-view s (and_left (padded s) (well_formed (view s)) good) full))
+    (ap Ok (pack-view s (and_left (padded s) (well_formed (view s)) good) full))
 
 -- what an answer took
-taken_of : (a : Answer States.State) (s : State) → state_answer a ≡ takes s → (st : States.State) × (a ≡ taken st) × (pack st ≡ s)
-unfolding state_answer
-taken_of (taken st) s e = (st, refl, ap (λ (x : StateAnswer). x.state) e)
-taken_of (refused r l) s e =
-    let o : Refused r ≡ Taken = ap (λ (x : StateAnswer). x.outcome) e in
-    never cc
+taken_of : (a : Answer States.State) (s : State) → state_answer a ≡ Ok s → (st : States.State) × (a ≡ taken st) × (pack st ≡ s)
+taken_of (taken st) s e = (st, refl, cc)
+taken_of (refused r l) s e = never cc
 
 -- what is loaded as a struct stores as the same bytes, and is well formed
-pub bytes_back : (bs : List ℕ) → Bytes bs → (s : State) → state_answer (load bs) ≡ takes s → (store (view s) ≡ bs) × T (formed s)
+pub bytes_back : (bs : List ℕ) → Bytes bs → (s : State) → state_answer (load bs) ≡ Ok s → (store (view s) ≡ bs) × T (formed s)
 bytes_back bs small s e =
     let found : (st : States.State) × (load bs ≡ taken st) × (pack st ≡ s) = taken_of (load bs) s e in
     let st : States.State = found.0 in

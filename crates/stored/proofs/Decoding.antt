@@ -6,13 +6,13 @@ use mathlib.Core.Logic.{⊎_elim}
 use mathlib.Core.List.{List, map}
 use native.Mathlib.Omega.{arith}
 use lib.ListN.{length, get_or, length-map}
+use Rattle.std.specs.Prelude.{Ok, Err}
 use Rattle.laws.specs.Lists.{numbers, each}
 use Rattle.laws.proofs.Tests.{to_T, decide}
 use Rattle.laws.proofs.Each.{length_from, length-each}
 use Rattle.rules.specs.Limits.{tasks_max}
 use Rattle.rules.specs.Tables.{size}
 use Rattle.rules.specs.Forms.{well_formed}
-use Rattle.rules.specs.Refusals.{refused}
 use Rattle.rules.specs.declared.refusal.Refusal.TheVariants.{BadState}
 use Rattle.slot_laws.proofs.Forms.{formed-kept}
 use Rattle.tables.specs.Views as Tables
@@ -21,9 +21,8 @@ use Rattle.machine.specs.Views.{task_number, core_number, units, packed, pack, f
 use Rattle.machine.specs.declared.state.State.{State}
 use Rattle.machine.proofs.Packed.{formed-pack}
 use Rattle.stored.specs.Layout.{place_of, length_of, size_in, decoded, load}
-use Rattle.stored.specs.Places.{number_at, row_at, cell, Held}
+use Rattle.stored.specs.Places.{number_at, row_at, cell}
 use Rattle.stored.specs.Answers.{state_answer}
-use Rattle.stored.specs.declared.load.Outcome.TheVariants.{Taken}
 use Rattle.stored.proofs.Round.{decoded-size, other_length, not_formed, is_formed}
 use Rattle.stored.proofs.Cells.{cells, decoded_cells, size_byte}
 
@@ -41,7 +40,7 @@ pub record Placed (bs : List ℕ) (n : ℕ) (s : State) : Type 0 where
   pub moves : s.moves ≡ number_at bs 6 8
   pub misses : s.misses ≡ number_at bs 14 8
 
-module _ (bs : List ℕ) {n : ℕ} (held : Held bs n) where
+module _ (bs : List ℕ) {n : ℕ} (said : n ≡ size_in bs) where
   pub placed-decoded : {s : State} → Placed bs n s → s ≡ pack (decoded bs)
   unfolding pack Tables.pack
   placed-decoded {s} p =
@@ -60,7 +59,7 @@ module _ (bs : List ℕ) {n : ℕ} (held : Held bs n) where
         misses = p.misses j;
       }
       in
-      made ∙ ap (λ (k : ℕ). pack (cells bs k)) held.said ∙ ap pack (sym (decoded_cells bs))
+      made ∙ ap (λ (k : ℕ). pack (cells bs k)) said ∙ ap pack (sym (decoded_cells bs))
 
 -- the state that bytes stand for has a number for each task
 sized : (bs : List ℕ) → Sized (decoded bs)
@@ -74,21 +73,21 @@ sized bs =
 
 module _ (bs : List ℕ) where
   -- too short for the fixed part
-  pub too_short : length bs < 22 → state_answer (refused BadState 0) ≡ state_answer (load bs)
+  pub too_short : length bs < 22 → Err BadState ≡ state_answer (load bs)
   too_short h = ap state_answer (sym (other_length bs (λ e. omega arith)))
 
-  module _ (fixed : 22 ≤ length bs) where
-    counted : get_or bs 1 0 ≡ size_in bs
-    counted = size_byte bs (omega arith)
+  module _ (fixed : 22 ≤ length bs) (n : ℕ) (said : n ≡ get_or bs 1 0) where
+    pub counted : n ≡ size_in bs
+    counted = said ∙ size_byte bs (omega arith)
 
-    pub wrong_length : (length bs ≡ length_of (get_or bs 1 0) → ⊥) → state_answer (refused BadState 0) ≡ state_answer (load bs)
+    pub wrong_length : (length bs ≡ length_of (n) → ⊥) → Err BadState ≡ state_answer (load bs)
     wrong_length ne = ap state_answer (sym (other_length bs (λ e. ne (e ∙ ap length_of (sym counted)))))
 
-    module _ (right : length bs ≡ length_of (get_or bs 1 0)) where
+    module _ (right : length bs ≡ length_of (n)) where
       right-length : length bs ≡ length_of (size_in bs)
       right-length = right ∙ ap length_of counted
 
-      pub too_many : tasks_max < get_or bs 1 0 → state_answer (refused BadState 0) ≡ state_answer (load bs)
+      pub too_many : tasks_max < n → Err BadState ≡ state_answer (load bs)
       too_many h =
           ap state_answer
           (sym
@@ -96,17 +95,13 @@ module _ (bs : List ℕ) where
           (λ (e : well_formed (decoded bs) ≡ false). not_formed bs right-length e)
           (decide (well_formed (decoded bs)))))
 
-      module _ (few : get_or bs 1 0 ≤ tasks_max) where
-        pub held : Held bs (get_or bs 1 0)
-        held = record { few = few; long = right; said = counted }
-
+      module _ (few : n ≤ tasks_max) where
         tested : formed (pack (decoded bs)) ≡ well_formed (decoded bs)
         tested = formed-pack (decoded bs) (sized bs) (omega (arith, decoded-size bs, counted))
 
         module _ {s : State} (made : s ≡ pack (decoded bs)) where
-          pub ill_formed : formed s ≡ false → state_answer (refused BadState 0) ≡ state_answer (load bs)
+          pub ill_formed : formed s ≡ false → Err BadState ≡ state_answer (load bs)
           ill_formed e = ap state_answer (sym (not_formed bs right-length (sym tested ∙ ap formed (sym made) ∙ e)))
 
-          pub well_formed_lem : formed s ≡ true → record { outcome = Taken; state = s } ≡ state_answer (load bs)
-          unfolding state_answer
+          pub well_formed_lem : formed s ≡ true → Ok s ≡ state_answer (load bs)
           well_formed_lem e = rw (is_formed bs right-length (sym tested ∙ ap formed (sym made) ∙ e), made)

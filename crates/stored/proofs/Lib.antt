@@ -2,6 +2,7 @@ pub mod Numbers
 pub mod Fields
 pub mod Round
 pub mod Loops
+pub mod Tasks
 pub mod Cells
 pub mod Decoding
 pub mod Storing

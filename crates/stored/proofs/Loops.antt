@@ -1,50 +1,81 @@
--- Bytes read and written one at a time: what one more byte does to a number that is read from the front, and to one that is
--- written from the back.
-use Prim.Native.Nat.{ℕ, ◌+◌, ◌*◌, ◌^◌, ◌≤◌, ◌<◌, zero-le}
+-- Bytes read by the library's method, and written from the last one back.
+use Prim.Native.Nat.{ℕ, zero, suc, ◌+◌, ◌-◌, ◌*◌, ◌≤◌, ◌<◌}
 use mathlib.Core.Path.{◌≡◌, refl, ap, ◌∙◌}
-use mathlib.Core.List.{List}
-use native.Mathlib.Nat.{pow-suc, lt_of_lt_of_le, pow-le-pow_right}
-use native.Mathlib.Numerals.{add-one}
+use mathlib.Core.List.{List, [], ◌++◌, append-nil}
 use native.Mathlib.Omega.{arith}
-use lib.Arith.{digits_lt}
-use lib.Dec.{lit<}
-use lib.ListN.{get_or, take, drop, length-drop}
-use lib.Seq.{take-suc, get_or-drop}
+use borrow.Rule.Slice.PartMut.{put_mid}
+use lib.ListN.{length, get_or, take, drop, replicate, length-append, length-replicate, length-drop}
+use lib.Seq.{take-suc, take_all, length-take-le}
+use Rattle.std.proofs.lemmas.List.{take-replicate, drop_all}
+use Rattle.std.specs.Int.{w64, from_be_bytes}
 use Rattle.laws.proofs.Backwards.{InPlaces}
 use Rattle.stored.specs.Layout.{bytes_of, value_of}
 use Rattle.stored.specs.Places.{number_at, Within, Read}
-use Rattle.stored.proofs.Numbers.{value_of_snoc}
+use Rattle.stored.proofs.Numbers.{Bytes, value_of_snoc, value-fits}
+use Rattle.stored.proofs.Fields.{bytes_drop}
 
--- ---- a number read from the front
+-- ---- a number read
 
--- i bytes have been read, and stand for v
-pub record Reading (s : List ℕ) (from width v i : ℕ) : Type 0 where
-  pub within : i ≤ width
-  pub below : v < 256 ^ i
-  pub same : v ≡ number_at s from i
+-- one more byte
+value_more : (bs : List ℕ) (j : ℕ) → j < length bs → value_of (take (suc j) bs) ≡ value_of (take j bs) * 256 + get_or bs j 0
+value_more bs j h = ap value_of (take-suc bs j 0 h) ∙ value_of_snoc (take j bs) (get_or bs j 0)
 
-module _ (s : List ℕ) (from width : ℕ) where
-  pub reading_starts : Reading s from width 0 0
-  unfolding number_at value_of
-  reading_starts = record { within = zero-le; below = lit< tt; same = refl }
+-- what the library makes of eight bytes is the number that they stand for
+eight_bytes : (bs : List ℕ) → length bs ≡ 8 → from_be_bytes w64 bs ≡ value_of bs
+eight_bytes bs e =
+    let none : value_of (take 0 bs) ≡ 0 = unfold value_of in refl in
+    let whole : value_of (take 8 bs) ≡ value_of bs = ap value_of (take_all 8 bs (omega arith)) in
+    let more : (j : ℕ) → j < 8 → value_of (take (suc j) bs) ≡ value_of (take j bs) * 256 + get_or bs j 0 = λ j l. value_more bs j (omega arith) in
+    omega (
+      arith,
+      none,
+      whole,
+      more 0 (omega arith),
+      more 1 (omega arith),
+      more 2 (omega arith),
+      more 3 (omega arith),
+      more 4 (omega arith),
+      more 5 (omega arith),
+      more 6 (omega arith),
+      more 7 (omega arith),
+    )
 
-  module _ (v i : ℕ) (r : Reading s from width v i) (h : i < width) (there : Within s from width) (small : get_or s (from + i) 0 < 256) where
-    below_more : v * 256 + get_or s (from + i) 0 < 256 ^ (i + 1)
-    below_more = rw (add-one i, pow-suc 256 i) (digits_lt r.below small)
+-- zeros before a number change nothing
+value_zeros : (k : ℕ) (bs : List ℕ) → value_of (replicate k 0 ++ bs) ≡ value_of bs
+unfolding value_of
+value_zeros zero bs = refl
+value_zeros (suc k) bs = value_zeros k bs
 
-    pub reading_goes_on : Reading s from width (v * 256 + get_or s (from + i) 0) (i + 1)
-    unfolding number_at
-    reading_goes_on =
-        record {
-          within = omega arith;
-          below = below_more;
-          same =
-              ap (λ (u : ℕ). u * 256 + get_or s (from + i) 0) r.same
-              ∙ rw (add-one i, take-suc (drop from s) i 0 (omega (arith, length-drop from s)), get_or-drop from s i 0, value_of_snoc (take i (drop from s)) (get_or s (from + i) 0));
-        }
+-- a number in the last of eight bytes, and zeros before it
+last_bytes : (bs : List ℕ) (w : ℕ) → w ≤ 8 → length bs ≡ w → from_be_bytes w64 (put_mid (8 - w) (8 - (8 - w)) (replicate 8 0) bs) ≡ value_of bs
+last_bytes bs w h e =
+    let zeros : List ℕ = replicate 8 0 in
+    let after : List ℕ = drop (8 - (8 - w)) (drop (8 - w) zeros) in
+    let before : take (8 - w) zeros ≡ replicate (8 - w) 0 = take-replicate (8 - w) 8 0 (omega arith) in
+    let none : after ≡ [] = drop_all (8 - (8 - w)) (drop (8 - w) zeros) (omega (arith, length-drop (8 - w) zeros, length-replicate {A = ℕ} 8 0)) in
+    let whole : put_mid (8 - w) (8 - (8 - w)) zeros bs ≡ replicate (8 - w) 0 ++ bs =
+    ap (λ (l : List ℕ). l ++ (bs ++ after)) before
+    ∙ ap (λ (l : List ℕ). replicate (8 - w) 0 ++ (bs ++ l)) none
+    ∙ ap (λ (l : List ℕ). replicate (8 - w) 0 ++ l) (append-nil bs)
+    in
+    eight_bytes _ (ap length whole ∙ length-append (replicate (8 - w) 0) bs ∙ omega (arith, length-replicate {A = ℕ} (8 - w) 0))
+    ∙ ap value_of whole
+    ∙ value_zeros (8 - w) bs
 
-    pub reading_fits : v * 256 + get_or s (from + i) 0 < 2 ^ 64
-    reading_fits = lt_of_lt_of_le below_more (pow-le-pow_right {n = 256} (lit< tt) {j = 8} (omega arith))
+-- bytes of a string that were copied there
+pub copied_reads : {s : List ℕ} {from w : ℕ} {part : List ℕ} {r : ℕ} → Within s from w → Bytes s → part ≡ take (from + w - from) (drop from s)
+    → r ≡ from_be_bytes w64 (put_mid (8 - w) (8 - (8 - w)) (replicate 8 0) part) → Read s from w r
+unfolding number_at
+copied_reads {s} {from} {w} {part} {r} there small copied made =
+    let bs : List ℕ = take w (drop from s) in
+    let width : from + w - from ≡ w = omega arith in
+    let same : part ≡ bs = rw width at copied in
+    let long : length bs ≡ w = length-take-le w (drop from s) (omega (arith, length-drop from s, there)) in
+    let value : r ≡ value_of bs = made ∙ last_bytes part w there.narrow (ap length same ∙ long) ∙ ap value_of same in
+    record {
+      value = value;
+      fits = rw value (value-fits (drop from s) (bytes_drop from s small) w (omega (arith, length-drop from s, there)));
+    }
 
 -- ---- a number written from the back
 

@@ -1,4 +1,5 @@
 -- A state's bytes laid into a buffer, field by field and record by record.
+use Rattle.std.proofs.Common.{Ok, Err}
 use Prim.Native.Nat.{ℕ, ◌+◌, ◌-◌, ◌*◌, ◌≤◌, ◌<◌}
 use mathlib.Core.Path.{◌≡◌, refl, sym, ap, ◌∙◌}
 use mathlib.Core.Bool.{true, false}
@@ -12,10 +13,11 @@ use Rattle.laws.proofs.Joins.{join_last}
 use Rattle.rules.specs.Limits.{tasks_max}
 use Rattle.rules.specs.Tables.{size}
 use Rattle.rules.specs.Answers.{lay}
-use Rattle.rules.specs.declared.refusal.Refusal.TheVariants.{NoRoom, BadState}
+use Rattle.rules.specs.Results.{room_reply}
+use Rattle.rules.specs.declared.refusal.Refusal.{Refusal}
+use Rattle.rules.specs.declared.refusal.Refusal.TheVariants.{BadState}
 use Rattle.tables.specs.Views as Tables
 use Rattle.tables.specs.Writes.{made, wrote_text}
-use Rattle.tables.specs.declared.write.WriteAnswer.TheVariants.{Written, Refused}
 use Rattle.tables.proofs.Written.{text_short, text-written}
 use Rattle.reading_laws.proofs.Laying.{Laid, nothing, put, first, more, ends_at, laid-front, Pieces, next_piece}
 use Rattle.machine.specs.Full.{Full}
@@ -77,7 +79,7 @@ entries s i =
     ∷ (get_or s.dropped i (units 0)).0
     ∷ []
 
-task-entries : (s : State) → Full s → tasks s ≤ tasks_max → (i : ℕ) → i < tasks s → task_of (view s) (i + 1) ≡ entries s i
+pub task-entries : (s : State) → Full s → tasks s ≤ tasks_max → (i : ℕ) → i < tasks s → task_of (view s) (i + 1) ≡ entries s i
 unfolding view
 task-entries s full few i more =
     rw (
@@ -95,26 +97,17 @@ task-entries s full few i more =
 abbrev pub first_records : State → ℕ → List ℕ
 first_records s i = join (map (record_of (view s)) (numbers i))
 
--- those of the first i tasks stand at the front of the lent part
-pub record Recording (out₀ : List ℕ) (s : State) (out : List ℕ) (at i : ℕ) : Type 0 where
-  pub full : Full s
-  pub few : tasks s ≤ tasks_max
-  pub pieces : Pieces (first_records s) 34 (tasks s) out₀ out at i
-
 module _ (s : State) where
   -- one record more
   more_records : (i : ℕ) → first_records s (i + 1) ≡ first_records s i ++ record_of (view s) (i + 1)
   more_records i = ap join (numbers_more (record_of (view s)) i) ∙ join_last (map (record_of (view s)) (numbers i)) (record_of (view s) (i + 1))
 
-  pub next_record : {out₀ out : List ℕ} {at i : ℕ} → Recording out₀ s out at i → i < tasks s → {tail : List ℕ}
-      → tail ≡ written task_widths (entries s i) ++ drop 34 (mid_of at (length out - at) out) → Recording out₀ s (put_mid at (length out - at) out tail) (at + 34) (i + 1)
+  pub next_record : {out₀ out : List ℕ} {i : ℕ} → Pieces (first_records s) 34 (tasks s) out₀ out (34 * i) i → i < tasks s → {tail : List ℕ}
+      → tail ≡ record_of (view s) (i + 1) ++ drop 34 (mid_of (34 * i) (length out - 34 * i) out)
+      → Pieces (first_records s) 34 (tasks s) out₀ (put_mid (34 * i) (length out - 34 * i) out tail) (34 * (i + 1)) (i + 1)
   next_record {i = i} w l e =
-      let entered = ap (λ (vs : List ℕ). first_records s i ++ written task_widths vs) (task-entries s w.full w.few i l) in
-      record {
-        full = w.full;
-        few = w.few;
-        pieces = next_piece w.pieces l (written task_widths (entries s i)) (length-written task_widths (entries s i) refl) (more_records i ∙ entered) e;
-      }
+      let next : 34 * (i + 1) ≡ 34 * i + 34 = omega arith in
+      rw next (next_piece w l (record_of (view s) (i + 1)) (length-written task_widths (task_of (view s) (i + 1)) refl) (more_records i) e)
 
 -- ---- the whole state
 
@@ -126,13 +119,13 @@ module _ (s : State) (full : Full s) (few : tasks s ≤ tasks_max) where
   length_stored : length (store (view s)) ≡ length_of (tasks s)
   length_stored = length-store (view s) ∙ ap length_of sizes
 
-  fixed_numbers : fixed_of (view s) ≡ s.table.m.0 ∷ s.table.n.0 ∷ s.clock.0 ∷ s.moves ∷ s.misses ∷ []
+  pub fixed_numbers : fixed_of (view s) ≡ s.table.m.0 ∷ s.table.n.0 ∷ s.clock.0 ∷ s.moves ∷ s.misses ∷ []
   unfolding view Tables.view
   fixed_numbers = ap (λ (n : ℕ). s.table.m.0 ∷ n ∷ s.clock.0 ∷ s.moves ∷ s.misses ∷ []) sizes
 
   -- the fixed part, and the records right after it
   pub state-written : (out out₁ tail : List ℕ) → length_of (tasks s) ≤ length out
-      → out₁ ≡ written fixed_widths (s.table.m.0 ∷ s.table.n.0 ∷ s.clock.0 ∷ s.moves ∷ s.misses ∷ []) ++ drop 22 out
+      → out₁ ≡ written fixed_widths (fixed_of (view s)) ++ drop 22 out
       → tail ≡ first_records s (tasks s) ++ drop (34 * tasks s) (mid_of 22 (length out₁ - 22) out₁)
       → put_mid 22 (length out₁ - 22) out₁ tail ≡ store (view s) ++ drop (length_of (tasks s)) out
   unfolding store
@@ -141,8 +134,7 @@ module _ (s : State) (full : Full s) (few : tasks s ≤ tasks_max) where
       let fixed : List ℕ = written fixed_widths (fixed_of (view s)) in
       let rest : List ℕ = first_records s n in
       let records : length rest ≡ 34 * n = length_records (record_of (view s)) 34 (λ i. length-written task_widths (task_of (view s) i) refl) 1 n in
-      let front : out₁ ≡ fixed ++ drop 22 out = fixed-is ∙ ap (λ (vs : List ℕ). written fixed_widths vs ++ drop 22 out) (sym fixed_numbers) in
-      let one = first out fixed 22 (length-written fixed_widths (fixed_of (view s)) refl) front in
+      let one = first out fixed 22 (length-written fixed_widths (fixed_of (view s)) refl) fixed-is in
       let whole : fixed ++ rest ≡ store (view s) = ap (λ (k : ℕ). fixed ++ first_records s k) (sym sizes) in
       laid-front out (more out one rest (34 * n) records (omega arith) rest-is) (length_of n) (omega arith)
       ∙ ap (λ (l : List ℕ). l ++ drop (length_of n) out) whole
@@ -151,7 +143,7 @@ module _ (s : State) (full : Full s) (few : tasks s ≤ tasks_max) where
 
 module _ (s : State) (out : List ℕ) (place : ℕ) where
   -- the state is not well formed
-  pub store_ill : formed s ≡ false → made (Refused BadState) out ≡ stored_state s out place
+  pub store_ill : formed s ≡ false → made (Err BadState) out ≡ stored_state s out place
   unfolding stored_state store_state
   store_ill e = text_ill s store out place (length (store (view s))) e
 
@@ -165,11 +157,11 @@ module _ (s : State) (out : List ℕ) (place : ℕ) where
     long = length_stored s full (padded-few s (formed-says s ok).0)
 
     -- they have no room
-    pub store_short : length out < place + length_of (tasks s) → made (Refused NoRoom) out ≡ stored_state s out place
-    store_short h = text_short out place (store (view s)) (length_of (tasks s)) long h ∙ bytes_for
+    pub store_short : {r : Refusal} → room_reply (length out) place (length_of (tasks s)) ≡ Err r → made (Err r) out ≡ stored_state s out place
+    store_short e = text_short out place (store (view s)) (length_of (tasks s)) long e ∙ bytes_for
 
     -- they have, and were written through the lent tail
-    pub store-written : (tail : List ℕ) → place + length_of (tasks s) ≤ length out
+    pub store-written : {u : Unit {0}} → room_reply (length out) place (length_of (tasks s)) ≡ Ok u → (tail : List ℕ)
         → tail ≡ store (view s) ++ drop (length_of (tasks s)) (mid_of place (length out - place) out)
-        → made (Written (length_of (tasks s))) (put_mid place (length out - place) out tail) ≡ stored_state s out place
-    store-written tail room e = text-written out place (store (view s)) (length_of (tasks s)) long room tail e ∙ bytes_for
+        → made (Ok (length_of (tasks s))) (put_mid place (length out - place) out tail) ≡ stored_state s out place
+    store-written room tail e = text-written out place (store (view s)) (length_of (tasks s)) long room tail e ∙ bytes_for

@@ -1,37 +1,21 @@
 -- What reading and writing a state answers, and leaves in the buffer.
-use Rattle.std.specs.Prelude.{ℕ, ◌≤◌, List, [], ◌∷◌, length}
+use Rattle.std.specs.Prelude.{ℕ, ◌≤◌, List, [], ◌∷◌, length, Result}
 use Rattle.rules.specs.Limits.{tasks_max}
-use Rattle.rules.specs.Refusals.{Answer, taken, refused, settle}
+use Rattle.rules.specs.Refusals.{Answer, settle}
+use Rattle.rules.specs.Results.{plain_reply}
+use Rattle.rules.specs.declared.refusal.Refusal.{Refusal}
 use Rattle.rules.specs.States as States
 use Rattle.rules.specs.Answers.{lay, room_test, state_test}
 use Rattle.tables.specs.Writes.{Wrote, wrote}
 use Rattle.machine.specs.Views.{tasks, view, pack}
 use Rattle.machine.specs.Answers.{asked}
+use Rattle.machine.specs.Full.{Full}
 use Rattle.machine.specs.declared.state.State.{State}
 use Rattle.stored.specs.Layout.{store}
-use Rattle.stored.specs.declared.load.Outcome.TheVariants.{Taken, Refused}
-use Rattle.stored.specs.declared.load.StateAnswer.{StateAnswer}
 
--- the struct with no core and no task
-unfoldable pub no_state : State
-no_state =
-    pack
-    (record {
-      table = record { m = 0; rows = [] };
-      ranks = [];
-      clock = 0;
-      left = [];
-      last = [];
-      done = [];
-      dropped = [];
-      moves = 0;
-      misses = 0;
-    })
-
--- the struct that gives an answer
-unfoldable pub state_answer : Answer States.State → StateAnswer
-state_answer (taken st) = record { outcome = Taken; state = pack st }
-state_answer (refused r l) = record { outcome = Refused r; state = no_state }
+-- what is returned for a state
+abbrev pub state_answer : Answer States.State → Result State Refusal
+state_answer a = plain_reply pack a
 
 -- the buffer after a state was stored: 9, then 7
 unfoldable pub store_state : States.State → List ℕ → ℕ → Answer (List ℕ)
@@ -43,5 +27,6 @@ stored_state s out place = wrote (length (store (view s))) out (asked s (λ st. 
 
 -- a struct has places for its tasks, and a buffer room for so many bytes
 pub record Room (s : State) (bytes : ℕ) (out : List ℕ) : Type 0 where
+  pub full : Full s
   pub few : tasks s ≤ tasks_max
   pub room : bytes ≤ length out

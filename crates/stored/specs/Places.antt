@@ -1,8 +1,7 @@
 -- Numbers at places of a byte string.
 use Rattle.std.specs.Prelude.{ℕ, ◌+◌, ◌-◌, ◌*◌, ◌^◌, ◌≤◌, ◌<◌, ◌≡◌, List, length, take, drop}
-use Rattle.rules.specs.Limits.{tasks_max}
 use Rattle.rules.specs.Rows.{Row}
-use Rattle.stored.specs.Layout.{value_of, length_of, size_in}
+use Rattle.stored.specs.Layout.{value_of}
 
 -- the number that so many bytes from a place on stand for
 unfoldable pub number_at : List ℕ → ℕ → ℕ → ℕ
@@ -25,14 +24,3 @@ row_at bs from = record { c = number_at bs from 4; t = number_at bs (from + 4) 4
 -- a number of each of n tasks: the place is that of task 1
 abbrev pub cell : List ℕ → ℕ → ℕ → ℕ → ℕ
 cell bs from width i = number_at bs (from + 34 * (i - 1)) width
-
--- a byte string of n tasks: as long as n asks for, and n is what it says itself
-pub record Held (bs : List ℕ) (n : ℕ) : Type 0 where
-  pub few : n ≤ tasks_max
-  pub long : length bs ≡ length_of n
-  pub said : n ≡ size_in bs
-
--- there are eight bytes for each of n tasks
-pub record Column (bs : List ℕ) (n from : ℕ) : Type 0 where
-  pub few : n ≤ tasks_max
-  pub inside : from + 8 + 34 * n ≤ length bs + 34

@@ -25,6 +25,7 @@
 #![tactic(auto)]
 
 pub mod bytes;
+mod decode;
 pub mod load;
 pub mod store;
 

@@ -1,20 +1,11 @@
--- What the answer of a kind's constructor says of the number that it tested.
-use Prim.Native.Nat.{ℕ, ◌≤◌, ◌<◌}
-use mathlib.Core.Path.{◌≡◌, refl}
-use mathlib.Core.Bool.{Bool, true, false, cond, ◌||◌}
-use native.Mathlib.Omega.{arith}
-use lib.Dec.{ltb}
+-- What a repeat length that was tested says of the number.
+use Rattle.std.proofs.Common.{◌≡◌, refl, ℕ, ◌≤◌, ◌<◌, Bool, true, false, cond, ◌||◌, ltb, arith, Some, None}
 use borrow.Author.Tests.{lt-ltb, le-ltb, ltb-true, ltb-false}
 use Rattle.laws.proofs.Tests.{never}
-use Rattle.rules.specs.Limits.{cores_min, cores_max, tasks_min, tasks_max, repeat_max}
+use Rattle.rules.specs.Limits.{repeat_max}
 use Rattle.rules.specs.Tables.{outside}
-use Rattle.rules.specs.Kinds.{cores_of, tasks_of, repeat_of}
-use Rattle.rules.specs.declared.kinds.Cores.{Cores}
-use Rattle.rules.specs.declared.kinds.CoresAnswer.TheVariants as Cored
+use Rattle.rules.specs.Kinds.{repeat_of}
 use Rattle.rules.specs.declared.kinds.Repeat.{Repeat}
-use Rattle.rules.specs.declared.kinds.RepeatAnswer.TheVariants as Repeated
-use Rattle.rules.specs.declared.kinds.Tasks.{Tasks}
-use Rattle.rules.specs.declared.kinds.TasksAnswer.TheVariants as Tasked
 use Rattle.tables.specs.Repeats.{Reached}
 
 -- a choice that is not the second was the first, and the other way round
@@ -26,32 +17,12 @@ passed : {A : Type 0} (b : Bool) (x y z : A) → cond b x y ≡ z → ¬ (x ≡ 
 passed true x y z e n = absurd (n e)
 passed false x y z e n = (refl, e)
 
--- m is outside its bounds
-pub cores-outside : (m : ℕ) → cores_of m ≡ Cored.Outside → outside m cores_min cores_max ≡ true
-cores-outside m e = chosen (outside m cores_min cores_max) _ _ _ e (λ q. never cc)
-
--- m is within them
-pub cores_within : (m : ℕ) (x : Cores) → cores_of m ≡ Cored.Within x → (outside m cores_min cores_max ≡ false) × (record { 0 = m } ≡ x)
-cores_within m x e =
-    let p = passed (outside m cores_min cores_max) _ _ _ e (λ q. never cc) in
-    (p.0, (let q = p.1 in cc))
-
--- n is outside its bounds
-pub tasks-outside : (n : ℕ) → tasks_of n ≡ Tasked.Outside → outside n tasks_min tasks_max ≡ true
-tasks-outside n e = chosen (outside n tasks_min tasks_max) _ _ _ e (λ q. never cc)
-
--- n is within them
-pub tasks_within : (n : ℕ) (x : Tasks) → tasks_of n ≡ Tasked.Within x → (outside n tasks_min tasks_max ≡ false) × (record { 0 = n } ≡ x)
-tasks_within n x e =
-    let p = passed (outside n tasks_min tasks_max) _ _ _ e (λ q. never cc) in
-    (p.0, (let q = p.1 in cc))
-
 -- a positive number is a repeat length up to the bound
-pub repeat_within : (h : ℕ) → 0 < h → h ≤ repeat_max → repeat_of h ≡ Repeated.Within (record { 0 = h })
+pub repeat_within : (h : ℕ) → 0 < h → h ≤ repeat_max → repeat_of h ≡ Some (record { 0 = h })
 repeat_within h low high = rw (le-ltb h 1 low, le-ltb repeat_max h high)
 
 -- and none past it
-pub repeat_above : (h : ℕ) → repeat_max < h → repeat_of h ≡ Repeated.Outside
+pub repeat_above : (h : ℕ) → repeat_max < h → repeat_of h ≡ None
 repeat_above h high = rw (le-ltb h 1 (omega arith), lt-ltb repeat_max h high)
 
 neither : (a b : Bool) → a || b ≡ false → (a ≡ false) × (b ≡ false)
@@ -59,7 +30,7 @@ neither true b e = (e, let z : ◌≡◌ {A = Bool} true false = e in cc)
 neither false b e = (refl, e)
 
 -- what an answer says: H is within its bounds
-pub repeat-taken : (h : ℕ) (x : Repeat) → repeat_of h ≡ Repeated.Within x → Reached x × (record { 0 = h } ≡ x)
+pub repeat-taken : (h : ℕ) (x : Repeat) → repeat_of h ≡ Some x → Reached x × (record { 0 = h } ≡ x)
 repeat-taken h x e =
     let p = passed (outside h 1 repeat_max) _ _ _ e (λ q. never cc) in
     let w = p.1 in
@@ -68,7 +39,7 @@ repeat-taken h x e =
     (rw (← same) (record { positive = ltb-false h 1 in_bounds.0; bounded = ltb-false repeat_max h in_bounds.1 }), same)
 
 -- or above its bound
-pub repeat-refused : (h : ℕ) → 0 < h → repeat_of h ≡ Repeated.Outside → repeat_max < h
+pub repeat-refused : (h : ℕ) → 0 < h → repeat_of h ≡ None → repeat_max < h
 repeat-refused h low e =
     let p = chosen (outside h 1 repeat_max) _ _ _ e (λ q. never cc) in
     ltb-true repeat_max h (rw (le-ltb h 1 low) at p)

@@ -1,9 +1,9 @@
 -- Reading the rows of a file one after the other, and what is left after them.
+use Rattle.std.proofs.Common.{Ok, Err}
 use Prim.Native.Nat.{ℕ, zero, suc, ◌+◌, ◌-◌, ◌*◌, ◌≤◌, ◌<◌, zero-le}
 use mathlib.Core.Path.{◌≡◌, refl, sym, ap, ◌∙◌}
 use mathlib.Core.List.{List, [], ◌∷◌, ◌++◌, append-nil}
 use native.Mathlib.Nat.{sub-zero}
-use native.Mathlib.Numerals.{add-one}
 use native.Mathlib.Omega.{arith}
 use lib.ListN.{length, drop, set, length-append, length-drop, drop_of_length-le}
 use lib.Seq.{drop-drop, drop-cons, append_snoc}
@@ -13,18 +13,17 @@ use Rattle.rules.specs.Rows as Rows
 use Rattle.rules.specs.Tables as Tables
 use Rattle.rules.specs.Frames.{Read}
 use Rattle.rules.specs.Files.{read_header, read_row, read_rows, read_last, read_lines, read_file}
-use Rattle.rules.specs.declared.refusal.Refusal.{Refusal}
+use Rattle.rules.specs.declared.refusal.Refused.{Refused}
 use Rattle.rules.specs.declared.refusal.Refusal.TheVariants.{Trailing}
-use Rattle.tables.specs.Views.{pack_row, view_row, pack_rows, pack, view, Formed, without_table, without_rows, table_answer}
-use Rattle.tables.specs.Rows.{row_read, rows_answer, rows_read}
+use Rattle.rules.proofs.Results.{reply_ok, reply_err, reply_stops}
+use Rattle.tables.specs.Views.{pack_row, view_row, pack_rows, pack, view, Formed, table_answer}
+use Rattle.tables.specs.Rows.{row_read, rows_read}
 use Rattle.tables.specs.Headers.{header_read}
 use Rattle.tables.specs.declared.table.Row.{Row}
-use Rattle.tables.specs.declared.table.Outcome.TheVariants as Outcome
-use Rattle.tables.specs.declared.row.RowAnswer.TheVariants.{Good, Refused}
-use Rattle.tables.specs.declared.header.HeaderAnswer.TheVariants as Header
-use Rattle.tables.proofs.Views.{pack_more, view-pack, packed-formed, taken_of, refused_of}
-use Rattle.tables.proofs.Rows.{row-taken, row-refused}
-use Rattle.tables.proofs.Headers.{Headed, header_refused}
+use Rattle.tables.specs.declared.table.Table.{Table}
+use Rattle.tables.proofs.Views.{pack_more, view-pack, packed-formed}
+use Rattle.tables.proofs.Rows.{row-taken}
+use Rattle.tables.proofs.Headers.{Headed}
 
 -- rows that were read before, and those that are read after them
 abbrev resumed : List Rows.Row → Answer (Read (List Rows.Row)) → Answer (Read (List Rows.Row))
@@ -39,23 +38,21 @@ resumed_one : (done : List Rows.Row) (r : Rows.Row) (a : Answer (Read (List Rows
 resumed_one done r (taken rs) = rw (append_snoc done r rs.got)
 resumed_one done r (refused x l) = refl
 
--- i rows have been read, and stand at the front of the array; the next one is at a line and a place
-pub record ReadingRows (s : List ℕ) (n : ℕ) (rows : List Row) (line at i : ℕ) : Type 0 where
+-- i rows have been read, and stand at the front of the array; the next one is at a place
+pub record ReadingRows (s : List ℕ) (n : ℕ) (rows : List Row) (at i : ℕ) : Type 0 where
   pub within : i ≤ n
-  pub numbered : line ≡ i + 2
   pub inside : at ≤ length s
   pub done : List Rows.Row
   pub counted : length done ≡ i
   pub packed : rows ≡ pack_rows done
-  pub same : resumed done (read_rows line (n - i) (drop at s)) ≡ read_rows 2 n s
+  pub same : resumed done (read_rows (i + 2) (n - i) (drop at s)) ≡ read_rows 2 n s
 
 module _ (s : List ℕ) (n : ℕ) where
   -- no row is read yet
-  pub rows_start : ReadingRows s n (pack_rows []) 2 0 0
+  pub rows_start : ReadingRows s n (pack_rows []) 0 0
   rows_start =
       record {
         within = zero-le;
-        numbered = refl;
         inside = zero-le;
         done = [];
         counted = refl;
@@ -63,43 +60,43 @@ module _ (s : List ℕ) (n : ℕ) where
         same = rw (sub-zero n) (resumed_none (read_rows 2 n s));
       }
 
-  module _ (rows : List Row) (line at i : ℕ) (r : ReadingRows s n rows line at i) where
+  module _ (rows : List Row) (at i : ℕ) (r : ReadingRows s n rows at i) where
     module _ (l : i < n) where
       abbrev rest : List ℕ
       rest = drop at s
 
-      one_more : read_rows line (n - i) rest ≡ read_rows line (suc (n - (i + 1))) rest
-      one_more = ap (λ (k : ℕ). read_rows line k rest) (omega arith)
+      one_more : read_rows (i + 2) (n - i) rest ≡ read_rows (i + 2) (suc (n - (i + 1))) rest
+      one_more = ap (λ (k : ℕ). read_rows (i + 2) k rest) (omega arith)
 
       -- a row that is refused ends the reading with its refusal
-      pub rows_stop : (x : Refusal) (k : ℕ) → row_read (read_row line rest) ≡ Refused x k → without_rows (Outcome.Refused x k) ≡ rows_read (read_rows 2 n s)
-      unfolding read_rows rows_read rows_answer
-      rows_stop x k e = rw (← r.same, one_more, row-refused line rest x k e)
+      pub rows_stop : (x : Refused) → row_read (read_row (i + 2) rest) ≡ Err x → Err x ≡ rows_read (read_rows 2 n s)
+      unfolding read_rows
+      rows_stop x e = rw (← r.same, one_more, reply_err _ (read_row (i + 2) rest) e)
 
       -- a row that is good is put into the array
-      pub rows_go_on : (x : Row) → n ≤ 64 → row_read (read_row line rest) ≡ Good x → ReadingRows s n (set rows i x) (line + 1) (at + 11) (i + 1)
+      pub rows_go_on : (x : Row) → n ≤ 64 → row_read (read_row (i + 2) rest) ≡ Ok x → ReadingRows s n (set rows i x) (at + 11) (i + 1)
       unfolding read_rows
       rows_go_on x small e =
-          let w = row-taken line rest x e in
+          let w = row-taken (i + 2) rest x e in
           let behind : drop 11 rest ≡ drop (at + 11) s = drop-drop 11 at s in
-          let others : Answer (Read (List Rows.Row)) = read_rows (suc line) (n - (i + 1)) (drop (at + 11) s) in
-          let first : read_rows line (n - i) rest ≡ and_then others (λ rs. taken (record { got = view_row x ∷ rs.got; rest = rs.rest })) =
+          let next_line : (i + 1) + 2 ≡ suc (i + 2) = omega arith in
+          let others : Answer (Read (List Rows.Row)) = read_rows (suc (i + 2)) (n - (i + 1)) (drop (at + 11) s) in
+          let first : read_rows (i + 2) (n - i) rest ≡ and_then others (λ rs. taken (record { got = view_row x ∷ rs.got; rest = rs.rest })) =
           one_more ∙ rw (w.1, behind)
           in
           record {
             within = omega arith;
-            numbered = omega arith;
             inside = omega (arith, length-drop at s);
             done = r.done ++ (view_row x ∷ []);
             counted = length-append r.done (view_row x ∷ []) ∙ omega arith;
             packed = rw r.packed (pack_more r.done x i r.counted (omega arith));
             same =
-                rw (add-one line) (sym (ap (resumed r.done) first ∙ resumed_one r.done (view_row x) others) ∙ r.same);
+                rw next_line (sym (ap (resumed r.done) first ∙ resumed_one r.done (view_row x) others) ∙ r.same);
           }
 
     -- all rows are read
-    pub rows_end : n ≤ i → record { outcome = Outcome.Taken; rows = rows } ≡ rows_read (read_rows 2 n s)
-    unfolding read_rows rows_read rows_answer
+    pub rows_end : n ≤ i → Ok rows ≡ rows_read (read_rows 2 n s)
+    unfolding read_rows
     rows_end l =
         let none : n - i ≡ 0 = omega arith in
         rw (← r.same, none, append-nil, r.packed)
@@ -143,9 +140,9 @@ rows-rest l (suc n) s rs e =
 -- ---- the lines of a file
 
 -- the header is refused
-pub no_header : (s : List ℕ) (x : Refusal) (k : ℕ) → header_read (read_header s) ≡ Header.Refused x k → without_table (Outcome.Refused x k) ≡ table_answer (read_lines s)
-unfolding read_lines table_answer
-no_header s x k e = rw (header_refused s x k e)
+pub no_header : (s : List ℕ) (x : Refused) → header_read (read_header s) ≡ Err x → Err x ≡ table_answer (read_lines s)
+unfolding read_lines
+no_header s x e = rw (reply_err _ (read_header s) e)
 
 module _ (s : List ℕ) (m n : ℕ) (h : Headed s m n) where
   abbrev body : List ℕ
@@ -156,59 +153,47 @@ module _ (s : List ℕ) (m n : ℕ) (h : Headed s m n) where
   after-header = rw h.read (rw (h.first_is, h.second_is))
 
   -- a row is refused
-  pub lines_stop : (x : Refusal) (k : ℕ) → (rows_read (read_rows 2 n body)).outcome ≡ Outcome.Refused x k → without_table (Outcome.Refused x k) ≡ table_answer (read_lines s)
-  unfolding rows_read rows_answer without_rows table_answer
-  lines_stop x k e = rw after-header (by_cases (read_rows 2 n body) e)
-    where
-      by_cases : (a : Answer (Read (List Rows.Row))) → (rows_read a).outcome ≡ Outcome.Refused x k
-          → without_table (Outcome.Refused x k) ≡ table_answer (and_then a (λ rs. read_last (n + 2) rs.rest (record { m = m; rows = rs.got })))
-      by_cases (taken rs) e = cc
-      by_cases (refused y j) e = ap without_table (sym e)
+  pub lines_stop : (x : Refused) → rows_read (read_rows 2 n body) ≡ Err x → Err x ≡ table_answer (read_lines s)
+  lines_stop x e = rw after-header (reply_stops pack _ _ (read_rows 2 n body) e)
 
   -- every row is taken
-  record Taken (rows : List Row) : Type 0 where
-    rs : Read (List Rows.Row)
-    read : read_rows 2 n body ≡ taken rs
-    packed : rows ≡ pack_rows rs.got
+  module _ (rows : List Row) (e : rows_read (read_rows 2 n body) ≡ Ok rows) where
+    found : (rs : Read (List Rows.Row)) × (read_rows 2 n body ≡ taken rs) × (pack_rows rs.got ≡ rows)
+    found = reply_ok (λ (r : Read (List Rows.Row)). pack_rows r.got) (read_rows 2 n body) e
 
-  rows_are : (a : Answer (Read (List Rows.Row))) → read_rows 2 n body ≡ a → (rows_read a).outcome ≡ Outcome.Taken → Taken (rows_read a).rows
-  unfolding rows_read rows_answer without_rows
-  rows_are (taken rs) p e = record { rs = rs; read = p; packed = refl }
-  rows_are (refused x k) p e = never cc
+    left : Rest n body found.0
+    left = rows-rest 2 n body found.0 found.1
 
-  module _ (e : (rows_read (read_rows 2 n body)).outcome ≡ Outcome.Taken) where
-    rows : Taken (rows_read (read_rows 2 n body)).rows
-    rows = rows_are (read_rows 2 n body) refl e
-
-    left : Rest n body rows.rs
-    left = rows-rest 2 n body rows.rs rows.read
-
-    after-rows : read_lines s ≡ read_last (n + 2) (drop (7 + 11 * n) s) (record { m = m; rows = rows.rs.got })
-    after-rows = after-header ∙ rw (rows.read, left.behind, drop-drop (11 * n) 7 s)
+    after-rows : read_lines s ≡ read_last (n + 2) (drop (7 + 11 * n) s) (record { m = m; rows = found.0.got })
+    after-rows = after-header ∙ rw (found.1, left.behind, drop-drop (11 * n) 7 s)
 
     -- and bytes follow them
-    pub lines-trailing : 7 + 11 * n < length s → without_table (Outcome.Refused Trailing (n + 2)) ≡ table_answer (read_lines s)
-    unfolding table_answer
+    pub lines-trailing : 7 + 11 * n < length s → Err (record { refusal = Trailing; line = n + 2 }) ≡ table_answer (read_lines s)
     lines-trailing l = rw (after-rows, drop-cons s (7 + 11 * n) 0 l)
 
     -- and nothing follows them
-    pub lines_end : length s ≤ 7 + 11 * n
-        → record { outcome = Outcome.Taken; table = record { m = record { 0 = m }; n = record { 0 = n }; rows = (rows_read (read_rows 2 n body)).rows } } ≡ table_answer (read_lines s)
-    unfolding table_answer pack
-    lines_end l = rw (after-rows, drop_of_length-le s l, rows.packed, left.many)
+    pub lines_end : length s ≤ 7 + 11 * n → Ok (record { m = record { 0 = m }; n = record { 0 = n }; rows = rows }) ≡ table_answer (read_lines s)
+    unfolding pack
+    lines_end l =
+        rw (after-rows, drop_of_length-le s l, left.many)
+        (ap (λ (r : List Row). Ok (record { m = record { 0 = m }; n = record { 0 = n }; rows = r })) (sym found.2))
 
 -- ---- a whole file
 
 -- the lines are refused
-pub file_stops : (s : List ℕ) (x : Refusal) (k : ℕ) → (table_answer (read_lines s)).outcome ≡ Outcome.Refused x k → without_table (Outcome.Refused x k) ≡ table_answer (read_file s)
-unfolding read_file table_answer
-file_stops s x k e = rw (refused_of (read_lines s) e)
+pub file_stops : (s : List ℕ) (x : Refused) → table_answer (read_lines s) ≡ Err x → Err x ≡ table_answer (read_file s)
+unfolding read_file
+file_stops s x e = reply_stops pack pack _ (read_lines s) e
 
 -- the lines are taken, and the tests of all rows are left
-pub file_goes_on : (s : List ℕ) → (table_answer (read_lines s)).outcome ≡ Outcome.Taken
-    → Formed (table_answer (read_lines s)).table
-    × (table_answer (settle (Tables.whole_tests (view (table_answer (read_lines s)).table).rows) (view (table_answer (read_lines s)).table)) ≡ table_answer (read_file s))
-unfolding read_file table_answer
-file_goes_on s e =
-    let found = taken_of (read_lines s) e in
-    rw found.1 (packed-formed found.0, rw (view-pack found.0))
+pub file_goes_on : (s : List ℕ) (t : Table) → table_answer (read_lines s) ≡ Ok t
+    → Formed t × (table_answer (settle (Tables.whole_tests (view t).rows) (view t)) ≡ table_answer (read_file s))
+unfolding read_file
+file_goes_on s t e = by_cases (read_lines s) e
+  where
+    by_cases : (a : Answer Tables.Table) → table_answer a ≡ Ok t → Formed t
+        × (table_answer (settle (Tables.whole_tests (view t).rows) (view t)) ≡ table_answer (and_then a (λ tbl. settle (Tables.whole_tests tbl.rows) tbl)))
+    by_cases (taken tbl) e =
+        let same : pack tbl ≡ t = cc in
+        rw (← same) (packed-formed tbl, rw (view-pack tbl))
+    by_cases (refused r l) e = never cc

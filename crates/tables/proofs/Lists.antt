@@ -1,4 +1,5 @@
 -- The tests of a list of rows: row by row, then of all together.
+use Rattle.std.proofs.Common.{Ok, Err}
 use Prim.Native.Nat.{ℕ, ◌+◌, ◌≤◌, ◌<◌, zero-le}
 use mathlib.Core.Path.{◌≡◌, refl, sym, ap, ◌∙◌}
 use mathlib.Core.List.{List, [], ◌∷◌, ◌++◌, map, append_assoc}
@@ -17,33 +18,34 @@ use Rattle.rules.specs.Files.{at_line}
 use Rattle.rules.specs.declared.kinds.Cores.{Cores}
 use Rattle.rules.specs.declared.kinds.Tasks.{Tasks}
 use Rattle.rules.specs.declared.refusal.Refusal.{Refusal}
+use Rattle.rules.specs.declared.refusal.Refused.{Refused}
 use Rattle.reading_laws.proofs.Tests.{first_passed, first_stays, none_passes, header-iff}
-use Rattle.tables.specs.Views.{pack_rows, pack, without_table, without_rows, table_answer}
+use Rattle.tables.specs.Views.{pack_rows, pack, table_answer}
 use Rattle.tables.specs.Rows.{test_row, row_answer, rows_answer}
 use Rattle.tables.specs.Headers.{test_header, header_answer}
 use Rattle.tables.specs.Lists.{pair_row, list_rows, test_rows}
 use Rattle.tables.specs.declared.table.Row.{Row}
-use Rattle.tables.specs.declared.table.Outcome.TheVariants as Outcome
-use Rattle.tables.specs.declared.header.HeaderAnswer.TheVariants as Header
-use Rattle.tables.specs.declared.row.RowAnswer.TheVariants.{Good, Refused}
+use Rattle.tables.specs.declared.header.Header.{Header}
 use Rattle.tables.proofs.Views.{pack_more}
 
 -- what the answer of a row's tests says
-tested_good : (c t : ℕ) (x : Row) → row_answer (test_row c t 0) ≡ Good x → (first (row_tests (record { c = c; t = t })) ≡ none) × (record { c = c; t = t } ≡ x)
+tested_good : (c t : ℕ) (x : Row) → row_answer (test_row c t 0) ≡ Ok x → (first (row_tests (record { c = c; t = t })) ≡ none) × (record { c = c; t = t } ≡ x)
 unfolding test_row
 tested_good c t x e = by_cases (first (row_tests (record { c = c; t = t }))) e
   where
-    by_cases : (o : Option Refusal) → row_answer (at_line 0 o (record { c = c; t = t })) ≡ Good x → (o ≡ none) × (record { c = c; t = t } ≡ x)
+    by_cases : (o : Option Refusal) → row_answer (at_line 0 o (record { c = c; t = t })) ≡ Ok x → (o ≡ none) × (record { c = c; t = t } ≡ x)
     by_cases none e = (refl, cc)
     by_cases (some y) e = never cc
 
-tested_bad : (c t : ℕ) (x : Refusal) (k : ℕ) → row_answer (test_row c t 0) ≡ Refused x k → (first (row_tests (record { c = c; t = t })) ≡ some x) × (k ≡ 0)
+tested_bad : (c t : ℕ) (x : Refused) → row_answer (test_row c t 0) ≡ Err x → (first (row_tests (record { c = c; t = t })) ≡ some x.refusal) × (x.line ≡ 0)
 unfolding test_row
-tested_bad c t x k e = by_cases (first (row_tests (record { c = c; t = t }))) e
+tested_bad c t x e = by_cases (first (row_tests (record { c = c; t = t }))) e
   where
-    by_cases : (o : Option Refusal) → row_answer (at_line 0 o (record { c = c; t = t })) ≡ Refused x k → (o ≡ some x) × (k ≡ 0)
+    by_cases : (o : Option Refusal) → row_answer (at_line 0 o (record { c = c; t = t })) ≡ Err x → (o ≡ some x.refusal) × (x.line ≡ 0)
     by_cases none e = never cc
-    by_cases (some y) e = (cc, cc)
+    by_cases (some y) e =
+        let same : record { refusal = y; line = 0 } ≡ x = cc in
+        rw (← same) (refl, refl)
 
 -- the first i rows have passed, and stand at the front of the array
 pub record TestingRows (list : List (List ℕ)) (rows : List Row) (i : ℕ) : Type 0 where
@@ -71,16 +73,15 @@ module _ (list : List (List ℕ)) where
       next = rw (add-one i, ← row_is) (drop-cons (list_rows list) i no_row in_rows)
 
       -- a row that is refused ends the tests with its refusal
-      pub testing_stops : (x : Refusal) (k : ℕ) → row_answer (test_row (get_or at_hand 0 0) (get_or at_hand 1 0) 0) ≡ Refused x k
-          → without_rows (Outcome.Refused x k) ≡ rows_answer (test_rows (list_rows list))
-      unfolding test_rows rows_answer
-      testing_stops x k e =
-          let w = tested_bad (get_or at_hand 0 0) (get_or at_hand 1 0) x k e in
+      pub testing_stops : (x : Refused) → row_answer (test_row (get_or at_hand 0 0) (get_or at_hand 1 0) 0) ≡ Err x → Err x ≡ rows_answer (test_rows (list_rows list))
+      unfolding test_rows
+      testing_stops x e =
+          let w = tested_bad (get_or at_hand 0 0) (get_or at_hand 1 0) x e in
           let others = join (map row_tests (drop (i + 1) (list_rows list))) in
-          rw (← r.same, next, first_stays (row_tests (pair_row at_hand)) others x w.0, w.1)
+          rw (← r.same, next, first_stays (row_tests (pair_row at_hand)) others x.refusal w.0, ← w.1)
 
       -- a row that is good is put into the array
-      pub testing_goes_on : (x : Row) → length list ≤ 64 → row_answer (test_row (get_or at_hand 0 0) (get_or at_hand 1 0) 0) ≡ Good x → TestingRows list (set rows i x) (i + 1)
+      pub testing_goes_on : (x : Row) → length list ≤ 64 → row_answer (test_row (get_or at_hand 0 0) (get_or at_hand 1 0) 0) ≡ Ok x → TestingRows list (set rows i x) (i + 1)
       testing_goes_on x small e =
           let w = tested_good (get_or at_hand 0 0) (get_or at_hand 1 0) x e in
           let others = join (map row_tests (drop (i + 1) (list_rows list))) in
@@ -97,8 +98,8 @@ module _ (list : List (List ℕ)) where
           }
 
     -- all rows have passed
-    pub testing_ends : length list ≤ i → record { outcome = Outcome.Taken; rows = rows } ≡ rows_answer (test_rows (list_rows list))
-    unfolding test_rows rows_answer
+    pub testing_ends : length list ≤ i → Ok rows ≡ rows_answer (test_rows (list_rows list))
+    unfolding test_rows
     testing_ends l =
         let all : length (list_rows list) ≤ i = omega (arith, length-map list pair_row) in
         rw (← r.same, drop_of_length-le (list_rows list) all, r.packed, take_all i (list_rows list) all)
@@ -106,13 +107,15 @@ module _ (list : List (List ℕ)) where
 -- ---- the whole list
 
 -- what the answer of the header's tests says
-header_bad : (m n : ℕ) (x : Refusal) (k : ℕ) → header_answer (test_header m n 0) ≡ Header.Refused x k → (first (header_tests m n) ≡ some x) × (k ≡ 0)
+header_bad : (m n : ℕ) (x : Refused) → header_answer (test_header m n 0) ≡ Err x → (first (header_tests m n) ≡ some x.refusal) × (x.line ≡ 0)
 unfolding test_header
-header_bad m n x k e = by_cases (first (header_tests m n)) e
+header_bad m n x e = by_cases (first (header_tests m n)) e
   where
-    by_cases : (o : Option Refusal) → header_answer (at_line 0 o (record { m = m; n = n })) ≡ Header.Refused x k → (o ≡ some x) × (k ≡ 0)
+    by_cases : (o : Option Refusal) → header_answer (at_line 0 o (record { m = m; n = n })) ≡ Err x → (o ≡ some x.refusal) × (x.line ≡ 0)
     by_cases none e = never cc
-    by_cases (some y) e = (cc, cc)
+    by_cases (some y) e =
+        let same : record { refusal = y; line = 0 } ≡ x = cc in
+        rw (← same) (refl, refl)
 
 pub record HeaderPassed (m n : ℕ) (a : Cores) (b : Tasks) : Type 0 where
   pub passed : T (passes (header_tests m n))
@@ -120,12 +123,14 @@ pub record HeaderPassed (m n : ℕ) (a : Cores) (b : Tasks) : Type 0 where
   pub tasks : record { 0 = n } ≡ b
 
 -- and of one that passed
-pub header-good : (m n : ℕ) (a : Cores) (b : Tasks) → header_answer (test_header m n 0) ≡ Header.Good a b → HeaderPassed m n a b
+pub header-good : (m n : ℕ) (h : Header) → header_answer (test_header m n 0) ≡ Ok h → HeaderPassed m n h.m h.n
 unfolding test_header
-header-good m n a b e = by_cases (first (header_tests m n)) refl e
+header-good m n h e = by_cases (first (header_tests m n)) refl e
   where
-    by_cases : (o : Option Refusal) → first (header_tests m n) ≡ o → header_answer (at_line 0 o (record { m = m; n = n })) ≡ Header.Good a b → HeaderPassed m n a b
-    by_cases none p e = record { passed = none_passes (header_tests m n) p; cores = cc; tasks = cc }
+    by_cases : (o : Option Refusal) → first (header_tests m n) ≡ o → header_answer (at_line 0 o (record { m = m; n = n })) ≡ Ok h → HeaderPassed m n h.m h.n
+    by_cases none p e =
+        let same : ◌≡◌ {A = Header} (record { m = record { 0 = m }; n = record { 0 = n } }) h = cc in
+        record { passed = none_passes (header_tests m n) p; cores = ap (λ (h : Header). h.m) same; tasks = ap (λ (h : Header). h.n) same }
     by_cases (some y) p e = never cc
 
 -- a list that passed has at most 64 rows
@@ -137,14 +142,14 @@ module _ (m : ℕ) (list : List (List ℕ)) where
   rows_of = list_rows list
 
   -- m or n is refused
-  pub list_stops : (x : Refusal) (k : ℕ) → header_answer (test_header m (length list) 0) ≡ Header.Refused x k → without_table (Outcome.Refused x k) ≡ table_answer (take_list m rows_of)
-  unfolding take_list list_tests table_answer
-  list_stops x k e =
-      let w = header_bad m (length list) x k e in
+  pub list_stops : (x : Refused) → header_answer (test_header m (length list) 0) ≡ Err x → Err x ≡ table_answer (take_list m rows_of)
+  unfolding take_list list_tests
+  list_stops x e =
+      let w = header_bad m (length list) x e in
       let hs = header_tests m (length rows_of) in
       let js = join (map row_tests rows_of) in
-      let found : first hs ≡ some x = rw (length-map list pair_row) w.0 in
-      rw (first_stays (hs ++ js) (whole_tests rows_of) x (first_stays hs js x found), w.1)
+      let found : first hs ≡ some x.refusal = rw (length-map list pair_row) w.0 in
+      rw (first_stays (hs ++ js) (whole_tests rows_of) x.refusal (first_stays hs js x.refusal found), ← w.1)
 
   module _ (p : T (passes (header_tests m (length list)))) where
     after-header : first (list_tests m rows_of) ≡ first (join (map row_tests rows_of) ++ whole_tests rows_of)
@@ -155,26 +160,26 @@ module _ (m : ℕ) (list : List (List ℕ)) where
         rw (append_assoc hs js (whole_tests rows_of)) (first_passed hs (js ++ whole_tests rows_of) (rw (length-map list pair_row) p))
 
     -- a row is refused
-    pub list_rows_stop : (x : Refusal) (k : ℕ) → (rows_answer (test_rows rows_of)).outcome ≡ Outcome.Refused x k → without_table (Outcome.Refused x k) ≡ table_answer (take_list m rows_of)
-    unfolding take_list test_rows rows_answer without_rows table_answer
-    list_rows_stop x k e = by_cases (first (join (map row_tests rows_of))) refl e
+    pub list_rows_stop : (x : Refused) → rows_answer (test_rows rows_of) ≡ Err x → Err x ≡ table_answer (take_list m rows_of)
+    unfolding take_list test_rows
+    list_rows_stop x e = by_cases (first (join (map row_tests rows_of))) refl e
       where
-        by_cases : (o : Option Refusal) → first (join (map row_tests rows_of)) ≡ o → (rows_answer (answered o rows_of)).outcome ≡ Outcome.Refused x k
-            → without_table (Outcome.Refused x k) ≡ table_answer (take_list m rows_of)
-        by_cases none q e = cc
+        by_cases : (o : Option Refusal) → first (join (map row_tests rows_of)) ≡ o → rows_answer (answered o rows_of) ≡ Err x → Err x ≡ table_answer (take_list m rows_of)
+        by_cases none q e = never cc
         by_cases (some y) q e =
-            rw (after-header, first_stays (join (map row_tests rows_of)) (whole_tests rows_of) y q) (ap without_table (sym e))
+            let same : record { refusal = y; line = 0 } ≡ x = cc in
+            rw (after-header, first_stays (join (map row_tests rows_of)) (whole_tests rows_of) y q, ← same)
 
     -- every row is taken, and the tests of all of them are left
-    pub list_rows_end : (rows_answer (test_rows rows_of)).outcome ≡ Outcome.Taken
-        → ((rows_answer (test_rows rows_of)).rows ≡ pack_rows rows_of) × (take_list m rows_of ≡ settle (whole_tests rows_of) (record { m = m; rows = rows_of }))
-    unfolding take_list test_rows rows_answer without_rows
-    list_rows_end e = by_cases (first (join (map row_tests rows_of))) refl e
+    pub list_rows_end : (rows : List Row) → rows_answer (test_rows rows_of) ≡ Ok rows
+        → (rows ≡ pack_rows rows_of) × (take_list m rows_of ≡ settle (whole_tests rows_of) (record { m = m; rows = rows_of }))
+    unfolding take_list test_rows
+    list_rows_end rows e = by_cases (first (join (map row_tests rows_of))) refl e
       where
-        by_cases : (o : Option Refusal) → first (join (map row_tests rows_of)) ≡ o → (rows_answer (answered o rows_of)).outcome ≡ Outcome.Taken
-            → ((rows_answer (answered o rows_of)).rows ≡ pack_rows rows_of) × (take_list m rows_of ≡ settle (whole_tests rows_of) (record { m = m; rows = rows_of }))
+        by_cases : (o : Option Refusal) → first (join (map row_tests rows_of)) ≡ o → rows_answer (answered o rows_of) ≡ Ok rows
+            → (rows ≡ pack_rows rows_of) × (take_list m rows_of ≡ settle (whole_tests rows_of) (record { m = m; rows = rows_of }))
         by_cases none q e =
-            (refl, rw (after-header, first_passed (join (map row_tests rows_of)) (whole_tests rows_of) (none_passes (join (map row_tests rows_of)) q)))
+            (cc, rw (after-header, first_passed (join (map row_tests rows_of)) (whole_tests rows_of) (none_passes (join (map row_tests rows_of)) q)))
         by_cases (some y) q e = never cc
 
   -- the struct of the table

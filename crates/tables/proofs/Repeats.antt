@@ -1,8 +1,9 @@
 -- The repeat length on the way: Euclid's greatest common divisor, and one more period.
-use Prim.Native.Nat.{ℕ, ◌+◌, ◌*◌, ◌/◌, ◌%◌, ◌^◌, ◌≤◌, ◌<◌}
+use Rattle.std.proofs.Common.{Some, None, Ok, Err}
+use Prim.Native.Nat.{ℕ, ◌+◌, ◌*◌, ◌/◌, ◌%◌, ◌≤◌, ◌<◌}
 use mathlib.Core.Path.{◌≡◌, refl, sym, ap, ◌∙◌}
 use mathlib.Core.List.{List}
-use native.Mathlib.Nat.{mul-one, mul-le-mul, lt_of_le_of_lt, le_of_lt, dvd_refl, dvd-zero, dvd-mod_iff, pos_of_dvd_of_pos}
+use native.Mathlib.Nat.{mul-one, dvd_refl, dvd-zero, dvd-mod_iff, pos_of_dvd_of_pos}
 use native.Mathlib.Numerals.{add-one}
 use native.Mathlib.Omega.{arith}
 use lib.Dec.{lit<, lit≤}
@@ -18,12 +19,10 @@ use Rattle.rules.specs.Tables.{no_row, whole_tests}
 use Rattle.rules.specs.Repeat.{lcm, repeat_length}
 use Rattle.rules.specs.declared.kinds.Repeat.{Repeat}
 use Rattle.rules.specs.declared.refusal.Refusal.TheVariants.{BadRepeat}
-use Rattle.rules.specs.declared.kinds.RepeatAnswer.TheVariants.{Within, Outside}
 use Rattle.priority_laws.proofs.Repeat.{lcm_by_gcd, lcm_pos, repeat_pos, repeat-reached-le}
-use Rattle.tables.specs.Views.{zero_row, view, Formed, without_table, table_answer}
+use Rattle.tables.specs.Views.{zero_row, view, Formed, table_answer}
 use Rattle.tables.specs.Repeats.{Gcd, Reached}
 use Rattle.tables.specs.declared.table.Table.{Table}
-use Rattle.tables.specs.declared.table.Outcome.TheVariants.{Taken, Refused}
 use Rattle.tables.proofs.Bounds.{repeat_within, repeat_above, repeat-taken, repeat-refused}
 use Rattle.tables.proofs.Views.{row-view}
 
@@ -79,14 +78,14 @@ module _ (t : Table) where
       next = rw (drop-cons (view t).rows i no_row l, row-view t i l, add-one i)
 
       -- one more row keeps it within the bound
-      pub repeating_goes_on : (x : Repeat) → repeat_of (lcm h.0 (get_or t.rows i zero_row).t) ≡ Within x → Repeating t x (i + 1)
+      pub repeating_goes_on : (x : Repeat) → repeat_of (lcm h.0 (get_or t.rows i zero_row).t) ≡ Some x → Repeating t x (i + 1)
       repeating_goes_on x e =
           let w = repeat-taken _ x e in
           let same : lcm h.0 (get_or t.rows i zero_row).t ≡ x.0 = ap (λ (y : Repeat). y.0) w.1 in
           record { reached = w.0; same = rw (← same) (sym next ∙ r.same) }
 
       -- one more row takes it past the bound, and H with it
-      pub repeating_stops : repeat_of (lcm h.0 (get_or t.rows i zero_row).t) ≡ Outside → repeat_of (repeat_length (view t).rows) ≡ Outside
+      pub repeating_stops : repeat_of (lcm h.0 (get_or t.rows i zero_row).t) ≡ None → repeat_of (repeat_length (view t).rows) ≡ None
       repeating_stops e =
           let m : ℕ = lcm h.0 (get_or t.rows i zero_row).t in
           let low : 0 < m = lcm_pos h.0 (get_or t.rows i zero_row).t r.reached.positive in
@@ -94,7 +93,7 @@ module _ (t : Table) where
           repeat_above (repeat_length (view t).rows) (omega (arith, sym next ∙ r.same, repeat-reached-le m (drop (i + 1) (view t).rows) low))
 
     -- all rows are counted
-    pub repeating_ends : length (view t).rows ≤ i → repeat_of (repeat_length (view t).rows) ≡ Within h
+    pub repeating_ends : length (view t).rows ≤ i → repeat_of (repeat_length (view t).rows) ≡ Some h
     repeating_ends l =
         let whole : h.0 ≡ repeat_length (view t).rows = rw (drop_of_length-le (view t).rows l) at r.same in
         rw (← whole) (repeat_within h.0 r.reached.positive r.reached.bounded)
@@ -102,15 +101,15 @@ module _ (t : Table) where
 -- ---- the tests of all rows together
 
 -- H is within its bound, and the table is taken
-pub whole-taken : (t : Table) (x : Repeat) → Formed t → repeat_of (repeat_length (view t).rows) ≡ Within x
-    → record { outcome = Taken; table = t } ≡ table_answer (settle (whole_tests (view t).rows) (view t))
-unfolding table_answer whole_tests
+pub whole-taken : (t : Table) (x : Repeat) → Formed t → repeat_of (repeat_length (view t).rows) ≡ Some x
+    → Ok t ≡ table_answer (settle (whole_tests (view t).rows) (view t))
+unfolding whole_tests
 whole-taken t x formed e =
     let w = repeat-taken (repeat_length (view t).rows) x e in
     let same : repeat_length (view t).rows ≡ x.0 = ap (λ (y : Repeat). y.0) w.1 in
     rw (le-ltb repeat_max (repeat_length (view t).rows) (omega (arith, w.0.bounded)), formed)
 
 -- H is above its bound
-pub whole-refused : (t : Table) → repeat_of (repeat_length (view t).rows) ≡ Outside → without_table (Refused BadRepeat 0) ≡ table_answer (settle (whole_tests (view t).rows) (view t))
-unfolding table_answer whole_tests
+pub whole-refused : (t : Table) → repeat_of (repeat_length (view t).rows) ≡ None → Err (record { refusal = BadRepeat; line = 0 }) ≡ table_answer (settle (whole_tests (view t).rows) (view t))
+unfolding whole_tests
 whole-refused t e = rw (lt-ltb repeat_max (repeat_length (view t).rows) (repeat-refused (repeat_length (view t).rows) (repeat_pos (view t).rows) e))

@@ -3,9 +3,7 @@ use Rattle.laws.proofs.Contracts.{One, both}
 use Rattle.tables.specs.Writes.{made}
 use Rattle.tables.proofs.table.empty.Reads as empty
 use Rattle.tables.proofs.row.test_row.Reads as test-row
-use Rattle.tables.proofs.row.outcome.Reads as row_outcome_lem
 use Rattle.tables.proofs.header.test_header.Reads as test-header
-use Rattle.tables.proofs.header.outcome.Reads as header_outcome_lem
 use Rattle.tables.proofs.repeat.rows_of.Reads as rows_of_lem
 use Rattle.tables.proofs.repeat.repeat_length.Reads as repeat-length
 use Rattle.tables.proofs.file.read_file.Reads as read-file
@@ -18,14 +16,8 @@ empty_once κs a x y s t p q = both p q
 pub test_row_once : One test-row.Post (λ κs r s. r)
 test_row_once κs a x y s t p q = both p q
 
-pub row_outcome_once : One row_outcome_lem.Post (λ κs r s. r)
-row_outcome_once κs a x y s t p q = both p q
-
 pub test_header_once : One test-header.Post (λ κs r s. r)
 test_header_once κs a x y s t p q = both p q
-
-pub header_outcome_once : One header_outcome_lem.Post (λ κs r s. r)
-header_outcome_once κs a x y s t p q = both p q
 
 pub rows_of_once : One rows_of_lem.Post (λ κs r s. r)
 rows_of_once κs a x y s t p q = both p q

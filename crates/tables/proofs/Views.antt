@@ -1,4 +1,4 @@
--- The table that a struct says, and the struct that says it; what the struct of an answer says.
+-- The table that a struct says, and the struct that says it.
 use Prim.Native.Nat.{ℕ, ◌-◌, ◌<◌, min}
 use mathlib.Core.Path.{◌≡◌, refl, sym, ap, ◌∙◌}
 use mathlib.Core.List.{List, [], ◌∷◌, ◌++◌, map}
@@ -8,16 +8,12 @@ use lib.Seq.{get_or-take, take_at}
 use mir.Val.{Val}
 use denote.Laws.{Is}
 use denote.Struct.Declared.{row}
-use Rattle.laws.proofs.Tests.{never}
 use Rattle.laws.proofs.Fronts.{front_more}
-use Rattle.rules.specs.Refusals.{Answer, taken, refused}
 use Rattle.rules.specs.Rows as Rows
 use Rattle.rules.specs.Tables as Tables
-use Rattle.tables.specs.Views.{pack_row, view_row, zero_row, pack_rows, pack, view, Formed, without_table, table_answer}
+use Rattle.tables.specs.Views.{pack_row, view_row, zero_row, pack_rows, pack, view, Formed}
 use Rattle.tables.specs.declared.table.Row.{Row}
 use Rattle.tables.specs.declared.table.Table.{Table}
-use Rattle.tables.specs.declared.table.Outcome.TheVariants.{Taken, Refused}
-use Rattle.rules.specs.declared.refusal.Refusal.{Refusal}
 use Rattle.tables.specs.contracts.table.Table as TableType
 
 -- a struct that a function is handed has 64 rows
@@ -60,17 +56,3 @@ view-pack tbl =
 -- and it is well formed
 pub packed-formed : (tbl : Tables.Table) → Formed (pack tbl)
 packed-formed tbl = ap pack (view-pack tbl)
-
--- ---- what the struct of an answer says
-
--- a table
-pub taken_of : (a : Answer Tables.Table) → (table_answer a).outcome ≡ Taken → (tbl : Tables.Table) × (a ≡ taken tbl) × ((table_answer a).table ≡ pack tbl)
-unfolding table_answer without_table
-taken_of (taken tbl) e = (tbl, refl, refl)
-taken_of (refused r l) e = never cc
-
--- a refusal
-pub refused_of : (a : Answer Tables.Table) {r : Refusal} {l : ℕ} → (table_answer a).outcome ≡ Refused r l → a ≡ refused r l
-unfolding table_answer without_table
-refused_of (taken tbl) e = cc
-refused_of (refused r l) e = cc

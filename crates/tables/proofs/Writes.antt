@@ -1,4 +1,5 @@
 -- Writing a table's text line by line, each line through the lent tail.
+use Rattle.std.proofs.Common.{Ok, Err}
 use Prim.Native.Nat.{ℕ, ◌+◌, ◌-◌, ◌*◌, ◌≤◌, ◌<◌}
 use mathlib.Core.Path.{◌≡◌, refl, sym, ap, ◌∙◌}
 use mathlib.Core.List.{List, [], ◌∷◌, ◌++◌, map, map-append}
@@ -17,17 +18,17 @@ use Rattle.rules.specs.Frames.{frame}
 use Rattle.rules.specs.Files.{header_line, row_line, text}
 use Rattle.rules.specs.Answers.{write_list}
 use Rattle.rules.specs.Refusals.{passes}
+use Rattle.rules.specs.Results.{room_reply}
 use Rattle.rules.specs.declared.refusal.Refusal.{Refusal}
-use Rattle.rules.specs.declared.refusal.Refusal.TheVariants.{NoRoom}
+use Rattle.rules.specs.declared.refusal.Refused.{Refused}
+use Rattle.rules.proofs.Results.{reply_ok, reply_err}
 use Rattle.reading_laws.proofs.Files.{length-rows, length-text}
 use Rattle.reading_laws.proofs.Tests.{first_passed, first_stays, settle-taken, settle-refused, accepts-iff}
 use Rattle.tables.specs.Views.{zero_row, pack, view, table_answer}
 use Rattle.tables.specs.Pairs.{pair_shape}
 use Rattle.tables.specs.Writes.{made, wrote, wrote_text, written_list}
 use Rattle.tables.specs.declared.table.Table.{Table}
-use Rattle.tables.specs.declared.table.Outcome.TheVariants as Outcome
-use Rattle.tables.specs.declared.write.WriteAnswer.TheVariants.{Written, Refused}
-use Rattle.tables.proofs.Views.{row-view, taken_of, refused_of}
+use Rattle.tables.proofs.Views.{row-view}
 use Rattle.tables.proofs.Written.{text_short, text-written}
 use Rattle.reading_laws.proofs.Laying.{first, more, laid-front, Pieces, next_piece, all_pieces}
 use Rattle.tables.proofs.Pairs.{length_pair}
@@ -86,10 +87,10 @@ module _ (m : ℕ) (rows : List Rules.Row) where
   tbl = record { m = m; rows = rows }
 
   -- a list that is refused
-  pub list_refused : (out : List ℕ) (place : ℕ) (x : Refusal) (k : ℕ) → (table_answer (take_list m rows)).outcome ≡ Outcome.Refused x k
-      → made (Refused x) out ≡ written_list m rows out place
+  pub list_refused : (out : List ℕ) (place : ℕ) (x : Refused) → table_answer (take_list m rows) ≡ Err x → made (Err x.refusal) out ≡ written_list m rows out place
   unfolding take_list written_list write_list wrote
-  list_refused out place x k e = rw (first_stays (list_tests m rows) _ x (settle-refused (list_tests m rows) tbl (refused_of (take_list m rows) e)))
+  list_refused out place x e =
+      rw (first_stays (list_tests m rows) _ x.refusal (settle-refused (list_tests m rows) tbl (reply_err pack (take_list m rows) e)))
 
   -- the text of one that passes is written, where there is room
   pub list_written : T (passes (list_tests m rows)) → (out : List ℕ) (place : ℕ) → wrote_text out place (text tbl) ≡ written_list m rows out place
@@ -97,17 +98,17 @@ module _ (m : ℕ) (rows : List Rules.Row) where
   list_written fine out place = rw (first_passed (list_tests m rows) _ fine)
 
   -- a list that is taken
-  module _ (e : (table_answer (take_list m rows)).outcome ≡ Outcome.Taken) where
-    passed : T (passes (list_tests m rows)) × ((table_answer (take_list m rows)).table ≡ pack tbl)
+  module _ (t : Table) (e : table_answer (take_list m rows) ≡ Ok t) where
+    passed : T (passes (list_tests m rows)) × (pack tbl ≡ t)
     unfolding take_list
     passed =
-        let found = taken_of (take_list m rows) e in
+        let found = reply_ok pack (take_list m rows) e in
         let settled = settle-taken (list_tests m rows) tbl found.0 found.1 in
-        (settled.0, found.2 ∙ ap pack (sym settled.1))
+        (settled.0, ap pack settled.1 ∙ found.2)
 
     -- the struct of the table
-    pub taken-table : (table_answer (take_list m rows)).table ≡ pack tbl
-    taken-table = passed.1
+    pub taken-table : t ≡ pack tbl
+    taken-table = sym passed.1
 
     -- it has at most 64 rows
     pub taken-few : length rows ≤ 64
@@ -116,11 +117,11 @@ module _ (m : ℕ) (rows : List Rules.Row) where
 
     module _ (out : List ℕ) (place : ℕ) where
       -- there is no room for the text
-      pub no_room : length out < place + (7 + 11 * length rows) → made (Refused NoRoom) out ≡ written_list m rows out place
+      pub no_room : {r : Refusal} → room_reply (length out) place (7 + 11 * length rows) ≡ Err r → made (Err r) out ≡ written_list m rows out place
       no_room l = text_short out place (text tbl) (7 + 11 * length rows) (length-text tbl) l ∙ list_written passed.0 out place
 
       -- there is room, and the text is laid from the place on
-      pub room_given : (tail : List ℕ) → place + (7 + 11 * length rows) ≤ length out
+      pub room_given : {u : Unit {0}} (tail : List ℕ) → room_reply (length out) place (7 + 11 * length rows) ≡ Ok u
           → tail ≡ text tbl ++ drop (7 + 11 * length rows) (mid_of place (length out - place) out)
-          → made (Written (7 + 11 * length rows)) (put_mid place (length out - place) out tail) ≡ written_list m rows out place
+          → made (Ok (7 + 11 * length rows)) (put_mid place (length out - place) out tail) ≡ written_list m rows out place
       room_given tail l e = text-written out place (text tbl) (7 + 11 * length rows) (length-text tbl) l tail e ∙ list_written passed.0 out place

@@ -1,14 +1,13 @@
 -- What is answered of a header's two numbers.
-use Rattle.std.specs.Prelude.{ℕ, List}
+use Rattle.std.specs.Prelude.{ℕ, List, Result}
 use Rattle.laws.specs.Lists.{at}
-use Rattle.rules.specs.Refusals.{Answer, taken, refused, first}
+use Rattle.rules.specs.Refusals.{Answer, first}
+use Rattle.rules.specs.Results.{reply}
 use Rattle.rules.specs.Tables.{header_tests}
 use Rattle.rules.specs.Frames.{Read}
 use Rattle.rules.specs.Files.{at_line}
-use Rattle.tables.specs.declared.table.Outcome.{Outcome}
-use Rattle.tables.specs.declared.table.Outcome.TheVariants as outcome
-use Rattle.tables.specs.declared.header.HeaderAnswer.{HeaderAnswer}
-use Rattle.tables.specs.declared.header.HeaderAnswer.TheVariants.{Good, Refused}
+use Rattle.rules.specs.declared.refusal.Refused.{Refused}
+use Rattle.tables.specs.declared.header.Header as Code
 
 -- m and n
 pub record Header : Type 0 where
@@ -19,17 +18,10 @@ pub record Header : Type 0 where
 unfoldable pub test_header : ℕ → ℕ → ℕ → Answer Header
 test_header m n line = at_line line (first (header_tests m n)) (record { m = m; n = n })
 
--- the enum that gives an answer, for numbers in hand
-abbrev pub header_answer : Answer Header → HeaderAnswer
-header_answer (taken h) = Good (record { 0 = h.m }) (record { 0 = h.n })
-header_answer (refused r l) = Refused r l
+-- what is returned, for numbers in hand
+abbrev pub header_answer : Answer Header → Result Code.Header Refused
+header_answer a = reply (λ h. record { m = record { 0 = h.m }; n = record { 0 = h.n } }) a
 
 -- and for a line that was read
-abbrev pub header_read : Answer (Read (List ℕ)) → HeaderAnswer
-header_read (taken h) = Good (record { 0 = at h.got 1 }) (record { 0 = at h.got 2 })
-header_read (refused r l) = Refused r l
-
--- what an answer says besides m and n
-abbrev pub header_outcome : HeaderAnswer → Outcome
-header_outcome (Good m n) = outcome.Taken
-header_outcome (Refused r l) = outcome.Refused r l
+abbrev pub header_read : Answer (Read (List ℕ)) → Result Code.Header Refused
+header_read a = reply (λ h. record { m = record { 0 = at h.got 1 }; n = record { 0 = at h.got 2 } }) a

@@ -1,15 +1,13 @@
 -- What the structs say, as the rules' tables, and the structs that say a table: every row past the last is 0.
-use Rattle.std.specs.Prelude.{◌-◌, ◌≡◌, List, [], ◌++◌, map, length, take, replicate}
+use Rattle.std.specs.Prelude.{◌-◌, ◌≡◌, List, [], ◌++◌, map, length, take, replicate, Result}
 use Rattle.rules.specs.Limits.{tasks_max}
-use Rattle.rules.specs.Refusals.{Answer, taken, refused}
+use Rattle.rules.specs.Refusals.{Answer}
+use Rattle.rules.specs.Results.{reply}
 use Rattle.rules.specs.Rows as Rows
 use Rattle.rules.specs.Tables as Tables
 use Rattle.tables.specs.declared.table.Row.{Row}
 use Rattle.tables.specs.declared.table.Table.{Table}
-use Rattle.tables.specs.declared.table.Outcome.{Outcome}
-use Rattle.tables.specs.declared.table.Outcome.TheVariants.{Taken, Refused}
-use Rattle.tables.specs.declared.table.TableAnswer.{TableAnswer}
-use Rattle.tables.specs.declared.table.RowsAnswer.{RowsAnswer}
+use Rattle.rules.specs.declared.refusal.Refused.{Refused}
 
 -- one row, there and back
 abbrev pub pack_row : Rows.Row → Row
@@ -42,14 +40,6 @@ Formed t = pack (view t) ≡ t
 unfoldable pub no_table : Table
 no_table = pack (record { m = 0; rows = [] })
 
--- an outcome with no table, or no row, beside it
-unfoldable pub without_table : Outcome → TableAnswer
-without_table o = record { outcome = o; table = no_table }
-
-unfoldable pub without_rows : Outcome → RowsAnswer
-without_rows o = record { outcome = o; rows = pack_rows [] }
-
--- the struct that gives an answer
-unfoldable pub table_answer : Answer Tables.Table → TableAnswer
-table_answer (taken tbl) = record { outcome = Taken; table = pack tbl }
-table_answer (refused r l) = without_table (Refused r l)
+-- what is returned for a table
+abbrev pub table_answer : Answer Tables.Table → Result Table Refused
+table_answer a = reply pack a

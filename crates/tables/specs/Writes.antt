@@ -1,32 +1,24 @@
 -- What writing into a buffer answers, and leaves in it.
-use Rattle.std.specs.Prelude.{ℕ, List, [], ◌∷◌, length}
+use Rattle.std.specs.Prelude.{ℕ, List, [], ◌∷◌, length, Result, Ok, Err}
 use Rattle.rules.specs.Refusals.{Answer, taken, refused, settle}
 use Rattle.rules.specs.Rows.{Row}
 use Rattle.rules.specs.Files.{text}
 use Rattle.rules.specs.Answers.{lay, room_test, write_list}
-use Rattle.tables.specs.declared.table.Outcome.{Outcome}
-use Rattle.tables.specs.declared.table.Outcome.TheVariants as outcome
-use Rattle.tables.specs.declared.write.WriteAnswer.{WriteAnswer}
-use Rattle.tables.specs.declared.write.WriteAnswer.TheVariants.{Written, Refused}
-
--- a refusal, whatever its line
-abbrev pub outcome_answer : Outcome → WriteAnswer
-outcome_answer outcome.Taken = Written 0
-outcome_answer (outcome.Refused r l) = Refused r
+use Rattle.rules.specs.declared.refusal.Refusal.{Refusal}
 
 -- the answer, and the buffer after the call
 pub record Wrote : Type 0 where
-  pub answer : WriteAnswer
+  pub answer : Result ℕ Refusal
   pub out : List ℕ
 
 -- both together
-abbrev pub made : WriteAnswer → List ℕ → Wrote
+abbrev pub made : Result ℕ Refusal → List ℕ → Wrote
 made a out = record { answer = a; out = out }
 
 -- how many bytes were written with the buffer that has them, or why none were with the buffer as it was
 unfoldable pub wrote : ℕ → List ℕ → Answer (List ℕ) → Wrote
-wrote size out (taken buffer) = made (Written size) buffer
-wrote size out (refused r l) = made (Refused r) out
+wrote size out (taken buffer) = made (Ok size) buffer
+wrote size out (refused r l) = made (Err r) out
 
 -- writing a text into a buffer from a place on, where there is room for all of it
 unfoldable pub wrote_text : List ℕ → ℕ → List ℕ → Wrote

@@ -7,10 +7,9 @@ ghost use Rattle.rules.specs.Tables.{whole_tests};
 ghost use Rattle.tables.specs.Repeats.{Gcd, Reached};
 ghost use Rattle.tables.specs.Views.{view, table_answer, Formed};
 
-use crate::table;
-use crate::table::{Outcome, Table, TableAnswer};
-use rules::kinds::{Repeat, RepeatAnswer, Tasks};
-use rules::refusal::Refusal;
+use crate::table::Table;
+use rules::kinds::{Kind, Repeat, Tasks};
+use rules::refusal::{Refusal, Refused};
 
 // The greatest common divisor, by Euclid.
 fn gcd(a: u32, b: u32) -> u32
@@ -26,25 +25,19 @@ fn gcd(a: u32, b: u32) -> u32
     x
 }
 
-fn wide(x: u32) -> u64
-    ensures { result ≡ x }
-{
-    x as u64
-}
-
 // The least common multiple of h and a period, if it is within the bound of H. (A period of 0, which no row that was tested
 // has, leaves h as it is, as the definition does.)
-fn lcm(h: Repeat, t: u32) -> RepeatAnswer
+fn lcm(h: Repeat, t: u32) -> Option<Repeat>
     requires { Reached h }
     ensures { result ≡ repeat_of (lcm_of h.0 t) }
 {
     if t == 0 {
-        return RepeatAnswer::Within(h);
+        return Some(h);
     }
     let g = gcd(h.0, t);
-    let m = wide(h.0) * wide(t / g);
-    if wide(Repeat::MAX) < m {
-        return RepeatAnswer::Outside;
+    let m = u64::from(h.0) * u64::from(t / g);
+    if u64::from(Repeat::MAX) < m {
+        return None;
     }
     Repeat::new(m as u32)
 }
@@ -53,40 +46,27 @@ fn lcm(h: Repeat, t: u32) -> RepeatAnswer
 pub fn rows_of(n: Tasks) -> usize
     ensures { result ≡ min n.0 64 }
 {
-    if n.0 < Tasks::MAX {
-        n.0 as usize
-    } else {
-        Tasks::MAX as usize
-    }
+    n.0.min(Tasks::MAX) as usize
 }
 
 // H, unless it is above its bound. The first value on the way that is above it ends the work: it divides H.
-pub fn repeat_length(table: Table) -> RepeatAnswer
+pub fn repeat_length(table: Table) -> Option<Repeat>
     ensures { result ≡ repeat_of (repeat_length (view table).rows) }
 {
-    let n = rows_of(table.n);
     let mut h = Repeat(1);
-    let mut i: usize = 0;
-    while i < n {
-        let RepeatAnswer::Within(next) = lcm(h, table.rows[i].t) else {
-            return RepeatAnswer::Outside;
-        };
-        h = next;
-        i = i + 1;
+    for i in 0..rows_of(table.n) {
+        h = lcm(h, table.rows[i].t)?;
     }
-    RepeatAnswer::Within(h)
+    Some(h)
 }
 
 // The tests of all rows together, which have no line.
-pub(crate) fn test_whole(table: Table) -> TableAnswer
+pub(crate) fn test_whole(table: Table) -> Result<Table, Refused>
     requires { Formed table }
     ensures { result ≡ table_answer (settle (whole_tests (view table).rows) (view table)) }
 {
     match repeat_length(table) {
-        RepeatAnswer::Within(_) => TableAnswer {
-            outcome: Outcome::Taken,
-            table,
-        },
-        RepeatAnswer::Outside => table::refused(Refusal::BadRepeat, 0),
+        Some(_) => Ok(table),
+        None => Err(Refusal::BadRepeat.at(0)),
     }
 }

@@ -1,9 +1,8 @@
-// A table, and the answer that has one beside it.
+// A table.
 ghost use Rattle.std.specs.Prelude.{◌≡◌};
-ghost use Rattle.tables.specs.Views.{no_table, without_table, without_rows};
+ghost use Rattle.tables.specs.Views.{no_table};
 
 use rules::kinds::{Cores, Tasks};
-use rules::refusal::Refusal;
 
 // One row: execution C and period T.
 #[derive(Clone, Copy)]
@@ -20,61 +19,17 @@ pub struct Table {
     pub rows: [Row; 64],
 }
 
-// Taken, or refused at a line of the file (0 where no line is meant).
-#[derive(Clone, Copy)]
-pub enum Outcome {
-    Taken,
-    Refused(Refusal, u32),
-}
-
-// A refusal has the empty table beside it.
-#[derive(Clone, Copy)]
-pub struct TableAnswer {
-    pub outcome: Outcome,
-    pub table: Table,
-}
-
-// Rows that were read or tested, and zeros past them; no row where one is refused.
-#[derive(Clone, Copy)]
-pub(crate) struct RowsAnswer {
-    pub outcome: Outcome,
-    pub rows: [Row; 64],
-}
-
 // The table with no core and no task.
+#[tactic(auto, unfolding(crate::specs::Views::no_table, crate::specs::Views::pack, crate::specs::Views::pack_rows))]
 pub fn empty() -> Table
     ensures { result ≡ no_table }
 {
     Table {
         m: Cores(0),
         n: Tasks(0),
-        rows: [Row { c: 0, t: 0 }; 64],
+        rows: NO_ROWS,
     }
 }
 
-// An answer with no table.
-pub(crate) fn no_table(o: Outcome) -> TableAnswer
-    ensures { result ≡ without_table o }
-{
-    TableAnswer {
-        outcome: o,
-        table: empty(),
-    }
-}
-
-// An answer with no row.
-pub(crate) fn no_rows(o: Outcome) -> RowsAnswer
-    ensures { result ≡ without_rows o }
-{
-    RowsAnswer {
-        outcome: o,
-        rows: [Row { c: 0, t: 0 }; 64],
-    }
-}
-
-// A refusal at a line.
-pub(crate) fn refused(r: Refusal, line: u32) -> TableAnswer
-    ensures { result ≡ without_table (Outcome.Refused r line) }
-{
-    no_table(Outcome::Refused(r, line))
-}
+// No row yet.
+pub(crate) const NO_ROWS: [Row; 64] = [Row { c: 0, t: 0 }; 64];

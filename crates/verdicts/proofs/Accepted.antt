@@ -1,4 +1,5 @@
 -- What the public functions answer for a table that is accepted, given as the struct that says it: what the rules define.
+use Rattle.std.proofs.Common.{Ok}
 use Prim.Native.Nat.{ℕ, ◌-◌}
 use mathlib.Core.Path.{◌≡◌, refl, ap, ◌∙◌}
 use mathlib.Core.List.{List, [], ◌∷◌, ◌++◌, map}
@@ -13,11 +14,9 @@ use Rattle.rules.specs.Runs.{verdict_line}
 use Rattle.rules.specs.declared.kinds.TaskNumber.{TaskNumber}
 use Rattle.reading_laws.proofs.Tests.{settle-passes}
 use Rattle.tables.specs.Views.{pack, view}
-use Rattle.tables.specs.declared.table.Outcome.TheVariants as Outcomes
 use Rattle.tables.proofs.Views.{view-pack}
 use Rattle.verdicts.specs.Lines.{verdict_frame}
 use Rattle.verdicts.specs.Structs.{lines_tests, struct_tests, judgement_of, verdict_answer, number_of, pack_ranks, priority_answer}
-use Rattle.verdicts.specs.declared.table.VerdictAnswer.TheVariants as Verdict
 
 module _ (tbl : Table) where
   -- the tests of the struct are those of the list of rows
@@ -31,11 +30,11 @@ module _ (tbl : Table) where
     all_passed a = rw packed_tests (settle-passes (list_tests tbl.m tbl.rows) a accepted)
 
     -- `verdict`
-    pub verdict-accepted : verdict_answer (settle (struct_tests (pack tbl)) (judgement_of (view (pack tbl)))) ≡ Verdict.Judged (judgement_of tbl)
+    pub verdict-accepted : verdict_answer (settle (struct_tests (pack tbl)) (judgement_of (view (pack tbl)))) ≡ Ok (judgement_of tbl)
     verdict-accepted = ap verdict_answer (all_passed (judgement_of (view (pack tbl)))) ∙ rw (view-pack tbl)
 
     -- `priority`
-    pub priority-accepted : priority_answer (settle (struct_tests (pack tbl)) (order (view (pack tbl)))) ≡ record { outcome = Outcomes.Taken; ranks = pack_ranks (order tbl) }
+    pub priority-accepted : priority_answer (settle (struct_tests (pack tbl)) (order (view (pack tbl)))) ≡ Ok (pack_ranks (order tbl))
     priority-accepted = ap priority_answer (all_passed (order (view (pack tbl)))) ∙ rw (view-pack tbl)
 
   -- the frame of its judgement is its line

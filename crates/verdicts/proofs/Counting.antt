@@ -1,43 +1,23 @@
--- The loop of `count_heavy`: after i tasks.
-use Prim.Native.Nat.{ℕ, ◌+◌, ◌≤◌, ◌<◌, zero-le}
-use mathlib.Core.Path.{◌≡◌, refl, sym, ap, ◌∙◌}
+-- The number of heavy tasks is the number of heavy rows.
+use Prim.Native.Nat.{ℕ}
+use mathlib.Core.Path.{◌≡◌, refl, sym, ◌∙◌}
 use mathlib.Core.Bool.{cond}
-use mathlib.Core.List.{List}
-use native.Mathlib.Omega.{arith}
-use lib.ListN.{length, get_or}
-use Rattle.laws.specs.Lists.{count, numbers}
-use Rattle.laws.proofs.Each.{length_from, count-le}
-use Rattle.laws.proofs.Filling.{at_next, count_next}
-use Rattle.rules.specs.Limits.{tasks_max}
+use mathlib.Core.List.{List, map}
+use Rattle.laws.specs.Lists.{sum, numbers}
+use Rattle.laws.proofs.Filters.{count_as_sum}
 use Rattle.rules.specs.Tables.{size}
-use Rattle.rules.specs.Verdicts as Rules
 use Rattle.rules.specs.Verdicts.{fraction, heavy_at, heavy, heavy_count}
-use Rattle.verdicts.specs.Columns.{Columns, table_of}
-use Rattle.verdicts.proofs.Columns.{rows-length, heavy-at, tasks-few}
+use Rattle.priority_laws.proofs.Order.{rows-sum}
+use Rattle.std.specs.List.{count_by}
+use Rattle.std.proofs.lemmas.List.Recursion.{is_sum_by}
+use Rattle.tables.specs.Views.{view_row}
+use Rattle.tables.specs.declared.table.Row.{Row}
+use Rattle.verdicts.specs.Rows.{table_of}
 
-module _ (m : ℕ) (cs ts : List ℕ) where
-  -- so many of the first i tasks are heavy
-  pub record Counting (n i : ℕ) : Type 0 where
-    pub within : i ≤ length cs
-    pub number : n ≡ count (heavy (table_of m cs ts)) (numbers i)
-
-  module _ (columns : Columns m cs ts) {n i : ℕ} (g : Counting n i) where
-    -- they are few enough for their type
-    pub few : n ≤ tasks_max
-    few = omega (arith, count-le (heavy (table_of m cs ts)) (numbers i), length_from 1 i, g.within, tasks-few m cs ts columns)
-
-    -- one task's turn
-    pub turn : {f : Rules.Fraction} {v : ℕ} → f ≡ fraction m → v ≡ cond (heavy_at f (record { c = get_or cs i 0; t = get_or ts i 0 })) 1 0 → i < length cs
-        → Counting (n + v) (i + 1)
-    turn {f} {v} ef ev more =
-        let here : heavy (table_of m cs ts) (i + 1) ≡ heavy_at f (record { c = get_or cs i 0; t = get_or ts i 0 }) =
-        heavy-at m cs ts columns.sized (i + 1) ∙ rw (at_next cs i, at_next ts i, ef)
-        in
-        record { within = omega arith; number = rw (g.number, ev, ← here) (sym (count_next (heavy (table_of m cs ts)) i)) }
-
-    -- after the last task
-    pub ended : length cs ≤ i → n ≡ heavy_count (table_of m cs ts)
-    unfolding heavy_count
-    ended h =
-        let e : i ≡ size (table_of m cs ts) = omega (arith, g.within, rows-length cs ts columns.sized) in
-        g.number ∙ ap (λ (k : ℕ). count (heavy (table_of m cs ts)) (numbers k)) e
+pub heavy_rows : (m : ℕ) (rows : List Row) → heavy_count (table_of m rows) ≡ count_by (λ r. heavy_at (fraction m) (view_row r)) rows
+unfolding heavy_count heavy
+heavy_rows m rows =
+    let tbl = table_of m rows in
+    count_as_sum (heavy tbl) (numbers (size tbl))
+    ∙ sym (rows-sum tbl (λ r. cond (heavy_at (fraction m) r) 1 0))
+    ∙ is_sum_by (λ rs. sum (map (λ r. cond (heavy_at (fraction m) r) 1 0) (map view_row rs))) (λ r. cond (heavy_at (fraction m) (view_row r)) 1 0) refl (λ _ _. refl) rows

@@ -1,4 +1,4 @@
-pub mod Columns
+pub mod Rows
 pub mod Products
 pub mod Counting
 pub mod Summing
@@ -7,8 +7,8 @@ pub mod Keys
 pub mod Inserting
 pub mod Ordering
 pub mod Pieces
+pub mod Maps
 pub mod Testing
-pub mod Splitting
 pub mod Structs
 pub mod Unique
 pub mod Accepted

@@ -1,6 +1,6 @@
 -- Products that fit their type.
 use Prim.Native.Nat.{ℕ, ◌-◌, ◌*◌, ◌^◌, ◌≤◌, ◌<◌}
-use native.Mathlib.Nat.{mul-le-mul, le-pred_of_lt}
+use native.Mathlib.Nat.{mul-le-mul}
 use native.Mathlib.Omega.{arith}
 use Rattle.rules.specs.Verdicts.{fraction}
 use Rattle.verdicts.specs.Limit.{Weighed}

@@ -10,7 +10,6 @@ use Rattle.verdicts.proofs.limit.judge.Reads as judge
 use Rattle.verdicts.proofs.order.order.Reads as order
 use Rattle.verdicts.proofs.lines.write_verdict.Reads as write-verdict
 use Rattle.verdicts.proofs.lines.write_order.Reads as write-order
-use Rattle.verdicts.proofs.rows.split.Reads as split
 use Rattle.verdicts.proofs.table.test_table.Reads as test_table
 use Rattle.verdicts.proofs.table.plain.Reads as plain
 use Rattle.verdicts.proofs.table.verdict.Reads as verdict
@@ -37,7 +36,7 @@ is_admitted_once κs a x y s t p q = both p q
 pub judge_once : One judge.Post (λ κs r s. r)
 judge_once κs a x y s t p q = both p q
 
-pub order_once : One order.Post (λ κs r s. s.1.1.1.0.now)
+pub order_once : One order.Post (λ κs r s. s.1.1.0.now)
 order_once κs a x y s t p q = both p q
 
 pub write_verdict_once : One write-verdict.Post (λ κs r s. s.0.now)
@@ -45,9 +44,6 @@ write_verdict_once κs a x y s t p q = both p q
 
 pub write_order_once : One write-order.Post (λ κs r s. s.0.now)
 write_order_once κs a x y s t p q = both p q
-
-pub split_once : One split.Post (λ κs r s. r)
-split_once κs a x y s t p q = both p q
 
 pub test_table_once : One test_table.Post (λ κs r s. r)
 test_table_once κs a x y s t p q = both p q

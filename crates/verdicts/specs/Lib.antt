@@ -1,6 +1,6 @@
-pub mod Columns
 pub mod Fractions
 pub mod Limit
+pub mod Rows
 pub mod Ranking
 pub mod Lines
 pub mod Structs

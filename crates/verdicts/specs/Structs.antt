@@ -1,33 +1,26 @@
 -- What is answered of a table that is given as a struct.
-use Rattle.std.specs.Prelude.{ℕ, ◌-◌, ◌≤◌, ◌≡◌, List, [], ◌++◌, map, length, replicate}
-use Rattle.std.proofs.Math.Option.{Option, none, some}
+use Rattle.std.specs.Prelude.{ℕ, ◌-◌, ◌≤◌, ◌≡◌, List, ◌++◌, map, length, replicate, Result}
+use Rattle.std.proofs.Math.Option.{Option}
 use Rattle.laws.specs.Lists.{join}
 use Rattle.rules.specs.Limits.{tasks_max}
-use Rattle.rules.specs.Refusals.{Test, Answer, taken, refused}
+use Rattle.rules.specs.Refusals.{Test, Answer, answered}
+use Rattle.rules.specs.Results.{reply}
 use Rattle.rules.specs.Repeat.{repeat_length}
 use Rattle.rules.specs.Tables as Rules
 use Rattle.rules.specs.Tables.{header_tests, row_tests, whole_tests}
 use Rattle.rules.specs.Verdicts.{verdict, heavy_count}
 use Rattle.rules.specs.declared.refusal.Refusal.{Refusal}
+use Rattle.rules.specs.declared.refusal.Refused.{Refused}
 use Rattle.rules.specs.declared.kinds.Repeat.{Repeat}
 use Rattle.rules.specs.declared.kinds.TaskNumber.{TaskNumber}
 use Rattle.reading_laws.specs.Bounds.{TableInBounds}
 use Rattle.tables.specs.Views.{view}
 use Rattle.tables.specs.declared.table.Table.{Table}
-use Rattle.tables.specs.declared.table.Outcome.{Outcome}
-use Rattle.tables.specs.declared.table.Outcome.TheVariants as Outcomes
-use Rattle.verdicts.specs.declared.rows.Columns.{Columns}
-use Rattle.verdicts.specs.declared.table.TableTest.{TableTest}
-use Rattle.verdicts.specs.declared.table.TableTest.TheVariants as Test
 use Rattle.verdicts.specs.declared.table.Judgement.{Judgement}
-use Rattle.verdicts.specs.declared.table.VerdictAnswer.{VerdictAnswer}
-use Rattle.verdicts.specs.declared.table.VerdictAnswer.TheVariants as Verdict
-use Rattle.verdicts.specs.declared.table.PriorityAnswer.{PriorityAnswer}
 
 -- taken, or the refusal of the first test that fails
-abbrev pub outcome_of : Option Refusal → Outcome
-outcome_of none = Outcomes.Taken
-outcome_of (some r) = Outcomes.Refused r 0
+abbrev pub outcome_of : Option Refusal → Result (Unit {0}) Refused
+outcome_of o = reply (λ u. u) (answered o tt)
 
 -- the tests of m and n, and then of the rows that count
 unfoldable pub lines_tests : Table → List Test
@@ -41,22 +34,16 @@ struct_tests t = lines_tests t ++ whole_tests (view t).rows
 abbrev pub repeat_of : Rules.Table → Repeat
 repeat_of tbl = record { 0 = repeat_length tbl.rows }
 
--- the answers, by their cases
-abbrev pub test_answer : Answer Repeat → TableTest
-test_answer (taken h) = Test.Taken h
-test_answer (refused r l) = Test.Refused r l
+-- what is returned of it
+abbrev pub test_answer : Answer Repeat → Result Repeat Refused
+test_answer a = reply (λ h. h) a
 
 -- what frame `11` says of a table
 abbrev pub judgement_of : Rules.Table → Judgement
 judgement_of tbl = record { verdict = verdict tbl; heavy = heavy_count tbl; repeat = repeat_of tbl }
 
-abbrev pub verdict_answer : Answer Judgement → VerdictAnswer
-verdict_answer (taken j) = Verdict.Judged j
-verdict_answer (refused r l) = Verdict.Refused r l
-
--- executions and periods
-abbrev pub columns_of : Table → Columns
-columns_of t = record { c = map (λ r. r.c) t.rows; t = map (λ r. r.t) t.rows }
+abbrev pub verdict_answer : Answer Judgement → Result Judgement Refused
+verdict_answer a = reply (λ j. j) a
 
 -- a task number
 abbrev pub number_of : ℕ → TaskNumber
@@ -66,9 +53,8 @@ number_of i = record { 0 = i }
 unfoldable pub pack_ranks : List ℕ → List TaskNumber
 pack_ranks ranks = map number_of ranks ++ replicate (tasks_max - length ranks) (number_of 0)
 
-abbrev pub priority_answer : Answer (List ℕ) → PriorityAnswer
-priority_answer (taken ranks) = record { outcome = Outcomes.Taken; ranks = pack_ranks ranks }
-priority_answer (refused r l) = record { outcome = Outcomes.Refused r l; ranks = pack_ranks [] }
+abbrev pub priority_answer : Answer (List ℕ) → Result (List TaskNumber) Refused
+priority_answer a = reply pack_ranks a
 
 -- a struct that passes all tests
 pub record Sound (t : Table) : Type 0 where

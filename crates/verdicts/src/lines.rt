@@ -3,6 +3,8 @@ ghost use Rattle.std.specs.Prelude.{◌≡◌, ◌++◌, ◌+◌, ◌*◌, ◌�
 ghost use Rattle.rules.specs.Runs.{order_line};
 ghost use Rattle.verdicts.specs.Lines.{verdict_frame};
 
+use frames::start::write_type;
+use rules::frame_type::FrameType;
 use rules::verdict::Verdict;
 
 // Frame `11`: the verdict, the number of heavy tasks, H.
@@ -10,10 +12,10 @@ pub fn write_verdict(out: &mut [u8], v: Verdict, heavy: u32, h: u32)
     requires { 15 ≤ length out.old }
     ensures { out.new ≡ verdict_frame v heavy h ++ drop 15 out.old }
 {
-    digits::write_field(out, 0, 2, 0x11);
-    digits::write_field(out, 2, 2, rules::verdict::byte(v) as u64);
-    digits::write_field(out, 4, 2, heavy as u64);
-    digits::write_field(out, 6, 8, h as u64);
+    write_type(out, FrameType::Verdict);
+    digits::write_field(out, 2, 2, u64::from(u8::from(v)));
+    digits::write_field(out, 4, 2, u64::from(heavy));
+    digits::write_field(out, 6, 8, u64::from(h));
     out[14] = 10;
 }
 
@@ -23,7 +25,7 @@ pub fn write_order(out: &mut [u8], ranks: &[u8])
     ensures { out.new ≡ order_line ranks.now ++ drop (2 * length ranks.now + 3) out.old }
 {
     let feed = 2 + 2 * ranks.len();
-    digits::write_field(out, 0, 2, 0x12);
+    write_type(out, FrameType::Order);
     frames::pairs::write_pairs(&mut out[2..], ranks);
     out[feed] = 10;
 }

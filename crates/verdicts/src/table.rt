@@ -5,25 +5,16 @@ ghost use Rattle.laws.specs.Lists.{join};
 ghost use Rattle.rules.specs.Refusals.{first, settle};
 ghost use Rattle.rules.specs.Tables.{row_tests};
 ghost use Rattle.rules.specs.Verdicts.{order as order_of};
-ghost use Rattle.tables.specs.Views.{view_row, view};
-ghost use Rattle.verdicts.specs.Structs.{outcome_of, lines_tests, struct_tests, repeat_of, test_answer, judgement_of, verdict_answer, number_of, pack_ranks, priority_answer, Sound, Known};
+ghost use Rattle.tables.specs.Views.{view};
+ghost use Rattle.verdicts.specs.Structs.{outcome_of, struct_tests, repeat_of, test_answer, judgement_of, verdict_answer, number_of, pack_ranks, priority_answer, Sound, Known};
 
 use crate::limit::judge;
 use crate::order::order;
 use crate::share::count_heavy;
-use rules::kinds::{Repeat, RepeatAnswer, TaskNumber};
-use rules::refusal::Refusal;
+use rules::kinds::{Repeat, TaskNumber};
+use rules::refusal::{Refusal, Refused};
 use rules::verdict::Verdict;
-use tables::header::HeaderAnswer;
-use tables::row::RowAnswer;
-use tables::table::{Outcome, Row, Table};
-
-// The repeat length of a table that passes all tests, or the refusal of the first test that it fails (at line 0: no file is meant).
-#[derive(Clone, Copy)]
-pub enum TableTest {
-    Taken(Repeat),
-    Refused(Refusal, u32),
-}
+use tables::table::Table;
 
 // What frame `11` says.
 #[derive(Clone, Copy)]
@@ -33,67 +24,24 @@ pub struct Judgement {
     pub repeat: Repeat,
 }
 
-// The judgement, or the refusal of the first test that the table fails.
-#[derive(Clone, Copy)]
-pub enum VerdictAnswer {
-    Judged(Judgement),
-    Refused(Refusal, u32),
-}
-
-// The task numbers, highest priority first, and zeros past the last; only zeros where the table is refused.
-#[derive(Clone, Copy)]
-pub struct PriorityAnswer {
-    pub outcome: Outcome,
-    pub ranks: [TaskNumber; 64],
-}
-
-// The tests of one row.
-fn test_row(row: Row) -> Outcome
-    ensures { result ≡ outcome_of (first (row_tests (view_row row))) }
-{
-    match tables::row::test_row(row.c, row.t, 0) {
-        RowAnswer::Good(_) => Outcome::Taken,
-        RowAnswer::Refused(r, line) => Outcome::Refused(r, line),
-    }
-}
-
 // The tests of the rows that count: the first that is refused ends them.
-fn test_rows(t: Table) -> Outcome
+fn test_rows(t: Table) -> Result<(), Refused>
     ensures { result ≡ outcome_of (first (join (map row_tests (view t).rows))) }
 {
-    let n = tables::repeat::rows_of(t.n);
-    let mut i: usize = 0;
-    while i < n {
-        let o = test_row(t.rows[i]);
-        let Outcome::Taken = o else {
-            return o;
-        };
-        i += 1;
+    for row in &t.rows[..tables::repeat::rows_of(t.n)] {
+        tables::row::test_row(row.c, row.t, 0)?;
     }
-    Outcome::Taken
+    Ok(())
 }
 
-// The tests of m and n, then of the rows.
-fn test_lines(t: Table) -> Outcome
-    ensures { result ≡ outcome_of (first (lines_tests t)) }
-{
-    match tables::header::test_header(t.m.0, t.n.0 as usize, 0) {
-        HeaderAnswer::Good(_, _) => test_rows(t),
-        HeaderAnswer::Refused(r, line) => Outcome::Refused(r, line),
-    }
-}
-
-// All tests of a table: those of the lines, then of H.
-pub fn test_table(t: Table) -> TableTest
+// All tests of a table: of m and n, of the rows, of H, which is returned where none is failed. No line of a file is meant.
+pub fn test_table(t: Table) -> Result<Repeat, Refused>
     ensures { result ≡ test_answer (settle (struct_tests t) (repeat_of (view t))) }
 {
-    match test_lines(t) {
-        Outcome::Refused(r, line) => TableTest::Refused(r, line),
-        Outcome::Taken => match tables::repeat::repeat_length(t) {
-            RepeatAnswer::Within(h) => TableTest::Taken(h),
-            RepeatAnswer::Outside => TableTest::Refused(Refusal::BadRepeat, 0),
-        },
-    }
+    // `as`, here and below, since a `usize` is made of a `u32` by `try_from` alone, whose refusal never comes.
+    tables::header::test_header(t.m.0, t.n.0 as usize, 0)?;
+    test_rows(t)?;
+    tables::repeat::repeat_length(t).ok_or(Refusal::BadRepeat.at(0))
 }
 
 // What frame `11` says of a table that passes all tests, from its repeat length.
@@ -102,43 +50,19 @@ fn judged(table: Table, h: Repeat) -> Judgement
     ensures { result ≡ judgement_of (view table) }
 {
     let m = table.m.0;
-    let n = table.n.0 as usize;
-    let columns = crate::rows::split(table);
-    let c = columns.c;
-    let t = columns.t;
-    let executions = &c[..n];
-    let periods = &t[..n];
+    let rows = &table.rows[..table.n.0 as usize];
     Judgement {
-        verdict: judge(m, h.0, executions, periods),
-        heavy: count_heavy(m, executions, periods),
+        verdict: judge(m, h.0, rows),
+        heavy: count_heavy(m, rows),
         repeat: h,
     }
-}
-
-// Each number in the type of task numbers.
-fn numbered(ranks: [u8; 64]) -> [TaskNumber; 64]
-    ensures { result ≡ map number_of ranks }
-{
-    let mut tasks = [TaskNumber(0); 64];
-    let mut i: usize = 0;
-    while i < 64 {
-        tasks[i] = TaskNumber(ranks[i]);
-        i += 1;
-    }
-    tasks
 }
 
 // The numbers alone, as frames and slots use them.
 pub fn plain(tasks: [TaskNumber; 64]) -> [u8; 64]
     ensures { result ≡ map (λ i. i.0) tasks }
 {
-    let mut ranks = [0u8; 64];
-    let mut i: usize = 0;
-    while i < 64 {
-        ranks[i] = tasks[i].0;
-        i += 1;
-    }
-    ranks
+    tasks.map(|i| i.0)
 }
 
 // The order of a table that passes all tests, and zeros past it.
@@ -146,38 +70,24 @@ fn ranked(table: Table) -> [TaskNumber; 64]
     requires { Sound table }
     ensures { result ≡ pack_ranks (order_of (view table)) }
 {
-    let m = table.m.0;
     let n = table.n.0 as usize;
-    let columns = crate::rows::split(table);
-    let c = columns.c;
-    let t = columns.t;
     let mut ranks = [0u8; 64];
-    order(m, &c[..n], &t[..n], &mut ranks[..n]);
-    numbered(ranks)
+    order(table.m.0, &table.rows[..n], &mut ranks[..n]);
+    ranks.map(TaskNumber)
 }
 
 // The verdict, the number of heavy tasks and the repeat length of a table.
-pub fn verdict(table: Table) -> VerdictAnswer
+pub fn verdict(table: Table) -> Result<Judgement, Refused>
     ensures { result ≡ verdict_answer (settle (struct_tests table) (judgement_of (view table))) }
 {
-    match test_table(table) {
-        TableTest::Taken(h) => VerdictAnswer::Judged(judged(table, h)),
-        TableTest::Refused(r, line) => VerdictAnswer::Refused(r, line),
-    }
+    let h = test_table(table)?;
+    Ok(judged(table, h))
 }
 
-// The priority order of a table.
-pub fn priority(table: Table) -> PriorityAnswer
+// The priority order of a table: the task numbers, highest priority first, and zeros past the last.
+pub fn priority(table: Table) -> Result<[TaskNumber; 64], Refused>
     ensures { result ≡ priority_answer (settle (struct_tests table) (order_of (view table))) }
 {
-    match test_table(table) {
-        TableTest::Taken(_) => PriorityAnswer {
-            outcome: Outcome::Taken,
-            ranks: ranked(table),
-        },
-        TableTest::Refused(r, line) => PriorityAnswer {
-            outcome: Outcome::Refused(r, line),
-            ranks: [TaskNumber(0); 64],
-        },
-    }
+    test_table(table)?;
+    Ok(ranked(table))
 }

@@ -4,8 +4,7 @@ use Rattle.laws.proofs.DigitLoops.{field-places}
 use Rattle.digits.proofs.write_digits.Goals as goal
 
 pub loop-i-preserved : goal.loop-i-preserved
-loop-i-preserved c =
-    rw c.low.ensures (writing_goes_on field-places c.loop-i.invariant c.loop-i-test.true)
+loop-i-preserved c = rw c.digit.ensures (writing_goes_on field-places c.loop-i.invariant c.loop-i-test.true)
 
 pub returns : goal.returns
 returns c = writing_ends field-places c.loop-i.invariant c.loop-i-test.false

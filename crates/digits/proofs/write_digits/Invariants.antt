@@ -5,6 +5,3 @@ use Rattle.digits.proofs.write_digits.Given as goal
 
 abbrev pub invariant-loop-i : goal.invariant-loop-i
 invariant-loop-i l = Writing field l.initial.out l.width l.v l.out l.rest l.i
-
-abbrev pub decreases-loop-i : goal.decreases-loop-i
-decreases-loop-i l = l.i

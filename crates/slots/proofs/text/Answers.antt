@@ -1,9 +1,10 @@
 -- `slots::text` meets its contract: no text is longer than the buffer.
-use Rattle.reports.proofs.Reporting.{never_refused, printed}
+use Rattle.std.proofs.Common.{refl}
+use Rattle.reports.proofs.Reporting.{answer_is, printed}
 use Rattle.slots.proofs.text.Goals as goal
 
-pub returns-in-Written : goal.returns-in-Written
-returns-in-Written c = printed c.args.input.now c.args.out.now c.requires c.report.ensures c.in-Written.is
+pub unwrap-requires : goal.unwrap-requires
+unwrap-requires c = rw (answer_is c.args.input.now c.args.out.now c.requires c.report.ensures) refl
 
-pub returns-in-Refused : goal.returns-in-Refused
-returns-in-Refused c = absurd (never_refused c.args.input.now c.args.out.now c.requires c.report.ensures c.in-Refused.is)
+pub returns : goal.returns
+returns c = printed c.args.input.now c.args.out.now c.requires c.report.ensures c.unwrap.ensures

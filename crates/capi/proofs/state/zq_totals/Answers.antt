@@ -3,4 +3,4 @@ use Rattle.capi.proofs.Telling.{totals-replied}
 use Rattle.capi.proofs.state.zq_totals.Goals as goal
 
 pub returns : goal.returns
-returns c = totals-replied _ c.load.ensures _ _ _ c.settle.ensures c.write_totals.ensures
+returns c = totals-replied _ _ _ _ c.settle.ensures c.write_totals_of.ensures

@@ -1,7 +1,6 @@
 -- `capi::table::zq_open` meets its contract.
-use mathlib.Core.Path.{ap, ◌∙◌}
+use Rattle.std.proofs.Common.{ap, ◌∙◌}
 use Rattle.rules.specs.Files.{read_file}
-use Rattle.tables.specs.declared.table.TableAnswer.{TableAnswer}
 use Rattle.capi.specs.Calls.{open_file, read, opened}
 use Rattle.capi.specs.Answers.{line_in}
 use Rattle.capi.proofs.Opening.{file_takes, takes_startable, open_replied, open_line}
@@ -17,5 +16,5 @@ returns c =
     let file = read_file c.args.file.now in
     let read_is = c.read_file-taken.ensures in
     let answer = open_replied file state _ c.settle.ensures read_is c.open_table.ensures in
-    let line = c.line_of.ensures ∙ ap (λ (x : TableAnswer). line_in x.outcome) read_is ∙ open_line file state in
+    let line = c.line_of.ensures ∙ ap line_in read_is ∙ open_line file state in
     λ j. read (answer j) (line j)

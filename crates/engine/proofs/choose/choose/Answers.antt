@@ -4,10 +4,10 @@ use native.Mathlib.Omega.{arith}
 use Rattle.engine.proofs.Choosing.{start, turn}
 use Rattle.engine.proofs.choose.choose.Goals as goal
 
-pub loop-r-init : goal.loop-r-init
-loop-r-init c = start _ _ _
+pub loop-i-init : goal.loop-i-init
+loop-i-init c = start _ _ _
 
-pub loop-r-preserved : goal.loop-r-preserved
-loop-r-preserved c =
-    rw (c.one-k.ensures, c.pending-waits.ensures)
-    (turn _ _ _ c.loop-r.invariant (omega arith) (omega arith) _ refl)
+pub loop-i-preserved : goal.loop-i-preserved
+loop-i-preserved c =
+    rw (c.from-k.ensures, c.pending.ensures)
+    (turn _ _ _ c.loop-i.invariant (omega arith) c.loop-i.auto.chosen (omega arith) _ refl)

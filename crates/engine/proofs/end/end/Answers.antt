@@ -7,6 +7,6 @@ pub loop-i-preserved : goal.loop-i-preserved
 loop-i-preserved c =
     turn _ _ _ _ _ c.requires c.loop-i.invariant (omega arith)
     c.next_phase-next.ensures
-    c.renewed.ensures
-    c.lost-late.ensures
-    c.missed-misses.ensures
+    c.at_release.ensures
+    c.at_release-late.ensures
+    c.from-misses.ensures

@@ -9,7 +9,7 @@ loop-i-init c = start _ _ c.requires
 pub loop-i-preserved : goal.loop-i-preserved
 loop-i-preserved c =
     rw (c.digit.ensures, c.digit-in-loop-i.ensures)
-    (turn c.args.out.now c.args.values.now c.requires c.loop-i.invariant c.loop-i-test.true (omega arith))
+    (turn c.args.out.now c.args.values.now c.requires c.loop-i.invariant (omega arith) (omega arith))
 
 pub returns : goal.returns
 returns c = ended _ _ c.requires c.loop-i.invariant (omega arith)

@@ -1,25 +1,24 @@
 -- `machine::form::is_padded` meets its contract.
-use mathlib.Core.Path.{sym, ◌∙◌}
-use native.Mathlib.Omega.{arith}
-use Rattle.machine.specs.Views.{blank}
-use Rattle.machine.proofs.Padding.{too_many, start, turn, stop, ended}
+use Prim.Native.Nat.{◌-◌}
+use mathlib.Core.Path.{refl, ◌∙◌}
+use borrow.Author.Tests.{lt-leb, le-leb}
+use Rattle.std.proofs.Common.{arith, rules, tests}
+use Rattle.std.proofs.lemmas.Iterator.{YieldsList-from_range}
+use Rattle.std.proofs.lemmas.Iterator.Search.{all_from_yields_List}
+use Rattle.machine.specs.Views.{tasks, blank, padded}
+use Rattle.machine.proofs.Walking.{all_from}
 use Rattle.machine.proofs.form.is_padded.Goals as goal
 
-pub returns-then-n-gt-MAX : goal.returns-then-n-gt-MAX
-returns-then-n-gt-MAX c = too_many c.args.s c.if-n-gt-MAX.true
+pub returns-then-n-le-MAX : goal.returns-then-n-le-MAX
+unfolding padded
+returns-then-n-le-MAX c =
+    let s = c.args.s.now in
+    let n = tasks s in
+    rw (le-leb n 64 c.if-n-le-MAX.true) (
+    all_from_yields_List (blank s) _ _ c.all.result c.all.ensures.ran (YieldsList-from_range n _ (64 - n) refl (omega arith)) (λ x b q k. search (rules, tests))
+    ∙ all_from (blank s) n (64 - n)
+    )
 
-pub loop-k-init : goal.loop-k-init
-loop-k-init c = start c.args.s c.if-n-gt-MAX.false
-
-pub returns-then-not-is_blank : goal.returns-then-not-is_blank
-unfolding blank
-returns-then-not-is_blank c =
-    stop _ c.loop-k.invariant (omega arith) (sym c.is_blank.ensures ∙ c.if-not-is_blank.true)
-
-pub loop-k-preserved : goal.loop-k-preserved
-unfolding blank
-loop-k-preserved c =
-    turn _ c.loop-k.invariant (omega arith) (sym c.is_blank.ensures ∙ c.if-not-is_blank.false)
-
-pub returns : goal.returns
-returns c = ended _ c.loop-k.invariant (omega arith)
+pub returns-else-n-le-MAX : goal.returns-else-n-le-MAX
+unfolding padded
+returns-else-n-le-MAX c = rw (lt-leb (tasks c.args.s.now) 64 c.if-n-le-MAX.false)

@@ -1,12 +1,17 @@
 -- `machine::form::tasks_fit` meets its contract.
-use mathlib.Core.Path.{sym, ◌∙◌}
-use Rattle.machine.proofs.Fitting.{turn, stop}
+use Prim.Native.Nat.{◌+◌}
+use mathlib.Core.Path.{◌∙◌}
+use native.Mathlib.Omega.{arith}
+use Rattle.std.proofs.Common.{rules, tests}
+use Rattle.std.proofs.lemmas.Iterator.{YieldsList-from_range}
+use Rattle.std.proofs.lemmas.Iterator.Search.{all_from_yields_List}
+use Rattle.rules.specs.Forms.{task_formed}
+use Rattle.machine.specs.Views.{tasks, view}
+use Rattle.machine.proofs.Walking.{all_next}
 use Rattle.machine.proofs.form.tasks_fit.Goals as goal
 
-pub returns-then-not-task_fits : goal.returns-then-not-task_fits
-returns-then-not-task_fits c =
-    stop _ c.loop-i.invariant c.loop-i-test.true (sym c.task_fits.ensures ∙ c.if-not-task_fits.true)
-
-pub loop-i-preserved : goal.loop-i-preserved
-loop-i-preserved c =
-    turn _ c.loop-i.invariant c.loop-i-test.true (sym c.task_fits.ensures ∙ c.if-not-task_fits.false)
+pub returns : goal.returns
+returns c =
+    let s = c.args.s.now in
+    all_from_yields_List (λ i. task_formed (view s) (i + 1)) _ _ c.all.result c.all.ensures.ran (YieldsList-from_range 0 (tasks s) (tasks s) (cc) (omega arith)) (λ x b q k. search (rules, tests))
+    ∙ all_next (task_formed (view s)) 0 (tasks s)

@@ -48,7 +48,7 @@ pub overflow_mul-worked : goal.overflow_mul-worked
 overflow_mul-worked c =
     let full = state_full c.args.s _ c.well_formed.0 in
     let task = named-of full c.is_formed.ensures c.if-not-is_formed.false c.is_outside.ensures c.if-is_outside.false in
-    let small = lead_parts _ _ full task.forming task.named c.wide.ensures refl in
+    let small = lead_parts _ _ full task.forming task.named c.from.ensures refl in
     record { fits = omega (arith, small.left) }
 
 pub bounds-t-k-2 : goal.bounds-t-k-2
@@ -61,7 +61,7 @@ pub returns : goal.returns
 returns c =
     let full = state_full c.args.s _ c.well_formed.0 in
     let task = named-of full c.is_formed.ensures c.if-not-is_formed.false c.is_outside.ensures c.if-is_outside.false in
-    lead_in _ _ full task.forming task.named c.wide.ensures c.times.ensures _
+    lead_in _ _ full task.forming task.named c.from.ensures c.times.ensures _
     (to_z-of_z {w = w64} (record { sfits = c.difference.type_inv }) ∙ c.difference.ensures)
 
 -- and so they are small
@@ -69,4 +69,4 @@ pub difference-requires : goal.difference-requires
 difference-requires c =
     let full = state_full c.args.s _ c.well_formed.0 in
     let task = named-of full c.is_formed.ensures c.if-not-is_formed.false c.is_outside.ensures c.if-is_outside.false in
-    lead_parts _ _ full task.forming task.named c.wide.ensures c.times.ensures
+    lead_parts _ _ full task.forming task.named c.from.ensures c.times.ensures

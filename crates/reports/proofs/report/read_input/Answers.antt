@@ -10,4 +10,4 @@ use Rattle.reports.proofs.report.read_input.Goals as goal
 
 pub returns : goal.returns
 returns c =
-    c.read_file.ensures ∙ ap (λ (s : List ℕ). table_answer (read_file s)) (start_is c.args.input.now c.least-end.result (omega (arith, c.least-end.ensures)))
+    c.read_file.ensures ∙ ap (λ (s : List ℕ). table_answer (read_file s)) (start_is c.args.input.now c.min.result (omega (arith, c.min.ensures)))

@@ -1,16 +1,16 @@
 -- `reports::report::report` meets its contract: the room is tested for all of the text, and then it is written.
-use native.Mathlib.Omega.{arith}
+use Rattle.std.proofs.Common.{sym, ap, ◌∙◌, ℕ, Result}
+use Rattle.rules.specs.declared.refusal.Refusal.{Refusal}
+use Rattle.rules.proofs.Results.{passed_on}
+use Rattle.tables.specs.Writes.{made}
 use Rattle.reports.proofs.Reporting.{no_room, room_given}
 use Rattle.reports.proofs.report.report.Goals as goal
 
-pub returns-then-out-at : goal.returns-then-out-at
-returns-then-out-at c =
-    no_room _ _ _ c.read_input-answer.ensures c.reply_length-size.ensures (omega arith)
-
-pub returns-then-out-at-2 : goal.returns-then-out-at-2
-returns-then-out-at-2 c =
-    no_room _ _ _ c.read_input-answer.ensures c.reply_length-size.ensures (omega arith)
+pub returns-in_err-room : goal.returns-in_err-room
+returns-in_err-room c =
+    ap (λ (a : Result ℕ Refusal). made a c.args.out.now) (passed_on _ c.from_residual.ensures.1)
+    ∙ no_room _ _ _ c.read_input-answer.ensures c.reply_length-size.ensures (sym c.room.ensures ∙ c.in_err-room.was)
 
 pub returns : goal.returns
 returns c =
-    room_given _ _ _ c.read_input-answer.ensures c.reply_length-size.ensures (omega arith) c.write_reply.ensures
+    room_given _ _ _ c.read_input-answer.ensures c.reply_length-size.ensures (sym c.room.ensures ∙ c.in_ok-room.was) c.write_reply.ensures

@@ -4,5 +4,5 @@ use Rattle.tables.specs.Views.{view}
 use Rattle.reports.proofs.Texts.{above}
 use Rattle.reports.proofs.table.slots_of.Goals as goal
 
-pub returns-in_default : goal.returns-in_default
-returns-in_default c = omega (arith, above (view c.args.t).rows c.repeat_length.ensures c.in_default.is)
+pub returns-in-None : goal.returns-in-None
+returns-in-None c = omega (arith, above (view c.args.t).rows c.repeat_length.ensures c.in-None.is)

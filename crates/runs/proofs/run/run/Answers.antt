@@ -1,39 +1,32 @@
 -- `runs::run::run` meets its contract: the tests in their order, then the run.
-use mathlib.Core.Path.{◌≡◌, sym, ◌∙◌}
-use mathlib.Core.Bool.{Bool, true}
-use mathlib.Core.List.{[]}
-use native.Mathlib.Omega.{arith}
-use lib.Dec.{T}
-use Rattle.laws.proofs.Tests.{to_T}
-use Rattle.runs.proofs.Answering.{refuse_state, in_bounds, few_cores, short_is, refuse_clock, refuse_room, take-run}
+use Rattle.std.proofs.Common.{sym, ap, ◌∙◌, Result}
+use Rattle.rules.specs.declared.refusal.Refusal.{Refusal}
+use Rattle.rules.proofs.Results.{passed_on}
+use Rattle.machine.specs.declared.state.State.{State}
+use Rattle.runs.specs.Answers.{run_end}
+use Rattle.runs.proofs.Answering.{refuse_state, in_bounds, few_cores, refuse_clock, refuse_room, take-run}
 use Rattle.runs.proofs.run.run.Goals as goal
 
--- what a call tested holds where it answered `true`
-passed : {answer tested : Bool} → answer ≡ tested → answer ≡ true → T tested
-passed e told = to_T (sym e ∙ told)
-
 pub returns-then-not-is_formed : goal.returns-then-not-is_formed
-returns-then-not-is_formed c =
-    refuse_state _ _ _ _ (sym c.is_formed.ensures ∙ c.if-not-is_formed.true) c.refused.ensures
+returns-then-not-is_formed c = refuse_state _ _ _ _ (sym c.is_formed.ensures ∙ c.if-not-is_formed.true)
 
-pub is_past-late-requires : goal.is_past-late-requires
-is_past-late-requires c = in_bounds _ 0 [] 0 (passed c.is_formed.ensures c.if-not-is_formed.false)
+pub is_past-requires : goal.is_past-requires
+is_past-requires c = in_bounds _ (sym c.is_formed.ensures ∙ c.if-not-is_formed.false)
+
+pub returns-then-is_past : goal.returns-then-is_past
+returns-then-is_past c =
+    refuse_clock _ _ _ _ (sym c.is_formed.ensures ∙ c.if-not-is_formed.false) (sym c.is_past.ensures ∙ c.if-is_past.true)
 
 pub length_of-requires : goal.length_of-requires
-length_of-requires c = few_cores _ 0 [] 0 (passed c.is_formed.ensures c.if-not-is_formed.false)
+length_of-requires c = few_cores _ (sym c.is_formed.ensures ∙ c.if-not-is_formed.false)
 
-pub returns-then-late : goal.returns-then-late
-returns-then-late c =
-    refuse_clock _ _ _ _ (passed c.is_formed.ensures c.if-not-is_formed.false) (sym c.is_past-late.ensures ∙ c.if-late.true) c.refused-then-late.ensures
-
-pub returns-then-short : goal.returns-then-short
-returns-then-short c =
-    let good = passed c.is_formed.ensures c.if-not-is_formed.false in
-    refuse_room _ _ _ _ good (grind arith) (short_is _ _ _ _ good c.is_short-short.ensures c.length_of.ensures c.if-short.true)
-    c.refused-then-short.ensures
+pub returns-in_err-room : goal.returns-in_err-room
+returns-in_err-room c =
+    ap (λ (a : Result State Refusal). run_end a c.args.out.now) (passed_on _ c.from_residual.ensures.1)
+    ∙ refuse_room _ _ _ _ (sym c.is_formed.ensures ∙ c.if-not-is_formed.false) (sym c.is_past.ensures ∙ c.if-is_past.false) c.length_of.ensures
+    (sym c.room.ensures ∙ c.in_err-room.was)
 
 pub returns : goal.returns
 returns c =
-    let good = passed c.is_formed.ensures c.if-not-is_formed.false in
-    take-run _ _ _ _ good (sym c.is_past-late.ensures ∙ c.if-late.false)
-    (short_is _ _ _ _ good c.is_short-short.ensures c.length_of.ensures c.if-short.false) c.run_formed.ensures
+    take-run _ _ _ _ (sym c.is_formed.ensures ∙ c.if-not-is_formed.false) (sym c.is_past.ensures ∙ c.if-is_past.false) c.length_of.ensures
+    (sym c.room.ensures ∙ c.in_ok-room.was) c.run_formed.ensures

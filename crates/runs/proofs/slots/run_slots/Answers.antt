@@ -37,18 +37,19 @@ slice_bounds-write_slot-end-in-loop-k c =
 
 pub overflow_add-moves : goal.overflow_add-moves
 overflow_add-moves c =
-    record { fits = moves_fit (still c.requires c.release.ensures) c.loop-k.invariant c.loop-k-test.true (cores_front c.requires) c.slot-shown.ensures }
+    record { fits = rw c.from-moves.ensures (moves_fit (still c.requires c.release.ensures) c.loop-k.invariant c.loop-k-test.true (cores_front c.requires) c.slot-shown.ensures) }
 
 pub overflow_add-misses : goal.overflow_add-misses
 overflow_add-misses c =
-    record { fits = misses_fit (still c.requires c.release.ensures) c.loop-k.invariant c.loop-k-test.true (cores_front c.requires) c.slot-shown.ensures }
+    record { fits = rw c.from-misses.ensures (misses_fit (still c.requires c.release.ensures) c.loop-k.invariant c.loop-k-test.true (cores_front c.requires) c.slot-shown.ensures) }
 
 pub loop-k-preserved : goal.loop-k-preserved
 loop-k-preserved c =
     let run = still c.requires c.release.ensures in
     let wide = cores_front c.requires in
-    turn run c.loop-k.invariant c.loop-k-test.true wide c.slot-shown.ensures c.frame_length-width.ensures
-    (rw (front-placing run c.loop-k.invariant c.loop-k-test.true wide c.slot-shown.ensures _) at c.write_slot.ensures)
+    rw (c.from-moves.ensures, c.from-misses.ensures)
+    (turn run c.loop-k.invariant c.loop-k-test.true wide c.slot-shown.ensures c.frame_length-width.ensures
+    (rw (front-placing run c.loop-k.invariant c.loop-k-test.true wide c.slot-shown.ensures _) at c.write_slot.ensures))
 
 pub slice_bounds-none-end : goal.slice_bounds-none-end
 slice_bounds-none-end c = few_tasks c.requires

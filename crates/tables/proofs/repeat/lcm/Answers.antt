@@ -22,12 +22,12 @@ returns-then-t-eq0 c =
 pub nonzero_div-t : goal.nonzero_div-t
 nonzero_div-t c = gcd_pos _ _ _ c.requires.positive c.gcd-g.ensures
 
-pub returns-then-wide-m : goal.returns-then-wide-m
-returns-then-wide-m c =
-    let product = product-of c.requires.positive c.if-t-eq0.false c.gcd-g.ensures c.wide.ensures c.wide-2.ensures in
-    sym (repeat_above (lcm c.args.h.0 c.args.t) (omega (arith, product, c.wide-3.ensures)))
+pub returns-then-from-m : goal.returns-then-from-m
+returns-then-from-m c =
+    let product = product-of c.requires.positive c.if-t-eq0.false c.gcd-g.ensures c.from.ensures c.from-2.ensures in
+    sym (repeat_above (lcm c.args.h.0 c.args.t) (omega (arith, product, c.from-3.ensures)))
 
 pub returns : goal.returns
 returns c =
-    let product = product-of c.requires.positive c.if-t-eq0.false c.gcd-g.ensures c.wide.ensures c.wide-2.ensures in
+    let product = product-of c.requires.positive c.if-t-eq0.false c.gcd-g.ensures c.from.ensures c.from-2.ensures in
     c.new.ensures ∙ ap repeat_of product

@@ -1,10 +1,10 @@
 -- `tables::row::read_row` meets its contract.
-use mathlib.Core.Path.{sym, ◌∙◌}
+use Rattle.std.proofs.Common.{sym, ap, ◌∙◌, Err}
 use Rattle.tables.proofs.Rows.{row_missing, row_found}
 use Rattle.tables.proofs.row.read_row.Goals as goal
 
 pub returns-in_default : goal.returns-in_default
-returns-in_default c = sym (row_missing _ _ (sym c.read_pair.ensures ∙ c.in_default.is))
+returns-in_default c = ap Err c.at.ensures ∙ row_missing _ _ (sym c.read_pair.ensures ∙ c.in_default.is)
 
 pub returns : goal.returns
-returns c = c.test_row.ensures ∙ row_found _ _ _ _ (sym c.read_pair.ensures ∙ c.in-Pair.is)
+returns c = c.test_row.ensures ∙ row_found _ _ _ _ (sym c.read_pair.ensures ∙ c.in-Some.is)

@@ -10,15 +10,15 @@ loop-i-init c = no_piece refl c.requires
 
 pub write_pair-requires : goal.write_pair-requires
 write_pair-requires c =
-    let count = rows-counted c.args.table c.well_formed.1.0 c.rows_of-n.ensures in
+    let count = rows-counted c.args.table c.well_formed.1.0 c.rows_of-i-end.ensures in
     piece_room c.loop-i.invariant (rw (← count) c.loop-i-test.true)
 
 pub loop-i-preserved : goal.loop-i-preserved
 loop-i-preserved c =
-    let count = rows-counted c.args.table c.well_formed.1.0 c.rows_of-n.ensures in
+    let count = rows-counted c.args.table c.well_formed.1.0 c.rows_of-i-end.ensures in
     next-line _ c.loop-i.invariant (rw (← count) c.loop-i-test.true) c.write_pair.ensures
 
 pub returns : goal.returns
 returns c =
-    let count = rows-counted c.args.table c.well_formed.1.0 c.rows_of-n.ensures in
+    let count = rows-counted c.args.table c.well_formed.1.0 c.rows_of-i-end.ensures in
     lines-written _ c.loop-i.invariant (rw (← count) c.loop-i-test.false)

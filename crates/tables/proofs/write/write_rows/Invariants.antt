@@ -1,5 +1,4 @@
 -- `tables::write::write_rows` meets its contract: the lines that are written stand at the front, one right after the other.
-use Prim.Native.Nat.{◌-◌}
 use lib.ListN.{length}
 use Rattle.reading_laws.proofs.Laying.{Pieces}
 use Rattle.tables.specs.Views.{view}
@@ -8,6 +7,3 @@ use Rattle.tables.proofs.write.write_rows.Given as goal
 
 abbrev pub invariant-loop-i : goal.invariant-loop-i
 invariant-loop-i l = Pieces (first_lines l.table) 11 (length (view l.table).rows) l.initial.out l.out l.at l.i
-
-abbrev pub decreases-loop-i : goal.decreases-loop-i
-decreases-loop-i l = l.n - l.i

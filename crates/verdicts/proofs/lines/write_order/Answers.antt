@@ -14,6 +14,6 @@ unfolding order_line frame pairs
 returns c =
     let out = c.args.out.now in
     let ranks = c.args.ranks.now in
-    let one = field_more out (nothing out) 2 0x12 (omega arith) c.write_field.ensures in
+    let one = field_more out (nothing out) 2 0x12 (omega arith) c.write_type.ensures in
     let two = more out one (pairs ranks) (2 * length ranks) (length_pairs ranks) (omega arith) c.write_pairs.ensures in
     fed out two (2 * length ranks + 3) (omega arith) (omega arith)

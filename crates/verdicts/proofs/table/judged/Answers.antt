@@ -1,15 +1,17 @@
--- `verdicts::table::judged` meets its contract: the two columns say the table.
-use Rattle.tables.proofs.Views.{table_full}
-use Rattle.verdicts.proofs.Structs.{columns, repeating, judgement}
+-- `verdicts::table::judged` meets its contract: the rows that count are the table.
+use mathlib.Core.Path.{ap, ◌∙◌}
+use Rattle.rules.specs.Verdicts.{verdict, heavy_count}
+use Rattle.verdicts.proofs.Structs.{says, bounds_of, repeating}
 use Rattle.verdicts.proofs.table.judged.Goals as goal
 
 pub judge-requires : goal.judge-requires
-judge-requires c = repeating _ (table_full c.args.table _ c.well_formed.0) c.requires.sound c.split-columns.ensures c.requires
+judge-requires c = repeating _ c.requires
 
 pub count_heavy-requires : goal.count_heavy-requires
-count_heavy-requires c = columns _ (table_full c.args.table _ c.well_formed.0) c.requires.sound c.split-columns.ensures
+count_heavy-requires c = bounds_of _ c.requires.sound
 
 pub returns : goal.returns
 returns c =
-    judgement _ (table_full c.args.table _ c.well_formed.0) c.requires.sound c.split-columns.ensures c.requires
-    c.judge.ensures c.count_heavy.ensures
+    let v = c.judge.ensures ∙ ap verdict (says c.args.table) in
+    let k = c.count_heavy.ensures ∙ ap heavy_count (says c.args.table) in
+    λ j. record { verdict = v j; heavy = k j; repeat = record { 0 = c.requires.length j } }
