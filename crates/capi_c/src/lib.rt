@@ -1,4 +1,5 @@
-// What a C program links: each call of `capi` under its own name, with its own clause.
+// What a C program links: each call of `capi` under its own name, with its own clause. C knows a function by its name alone, so that
+// none of them can be one generic function.
 //
 // In C a slice is a pointer and a length, a `&mut` of a number a pointer. The proofs go by each lent part being there and being its own:
 // the caller sees to it that no two parts lent to one call overlap where one of them is written.

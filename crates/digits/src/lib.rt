@@ -1,11 +1,15 @@
 // Lowercase hexadecimal digits and big-endian fields of them: read out of a text, and written into one.
 #![tactic(auto)]
 
-ghost use Rattle.std.specs.Prelude.{◌≡◌, ◌++◌, cond, ◌+◌, ◌≤◌, ◌<◌, ltb, length, take, drop};
+ghost use Rattle.std.specs.Prelude.{◌≡◌, cond, ◌+◌, ◌≤◌, ◌<◌, ltb, length, take, drop};
 ghost use Rattle.laws.specs.Digits.{digit as digit_of, digit_value, value, field};
 ghost use Rattle.rules.specs.Answers.{lay};
 ghost use Rattle.rules.specs.Results.{option};
 ghost use Rattle.digits.specs.Fields.{Within};
+
+pub mod places;
+
+use crate::places::write_places;
 
 // How far a digit lies above the number that it stands for: a value and no branch where digits are written.
 fn above(v: u8) -> u8
@@ -55,22 +59,10 @@ pub fn read_field(s: &[u8], from: usize, width: usize) -> Option<u64>
     read_digits(&s[from..from + width])
 }
 
-// The first `width` bytes become v in so many digits; nothing after them differs.
-fn write_digits(out: &mut [u8], width: usize, v: u64)
-    requires { width ≤ length out.old }
-    ensures { out.new ≡ field width v ++ drop width out.old }
-{
-    let mut rest = v;
-    for i in (0..width).rev() {
-        out[i] = digit((rest % 16) as u8);
-        rest /= 16;
-    }
-}
-
 // The `width` bytes from a place on become v in so many digits; no other byte differs.
 pub fn write_field(out: &mut [u8], at: usize, width: usize, v: u64)
     requires { at + width ≤ length out.old }
     ensures { out.new ≡ lay out.old at (field width v) }
 {
-    write_digits(&mut out[at..], width, v);
+    write_places::<16, _>(out, at, width, v, digit);
 }

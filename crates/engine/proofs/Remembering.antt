@@ -11,7 +11,7 @@ use lib.Dec.{eqb, ltb}
 use lib.ListN.{length, get_or, set}
 use Rattle.laws.specs.Lists.{count, numbers, at, position}
 use Rattle.laws.proofs.Tests.{decide}
-use Rattle.laws.proofs.Each.{length-each, at_each, each_at, each_cong, count_cong}
+use Rattle.laws.proofs.Each.{at_each, each_at, each_cong, count_cong}
 use Rattle.laws.proofs.Entries.{count_false}
 use Rattle.laws.proofs.Changes.{position-set, position_put, each_put, count_put}
 use Rattle.rules.specs.Slots.{placed, moved}
@@ -50,9 +50,6 @@ module _ (m : ℕ) (last chosen : List ℕ) where
 -- ---- one task more takes a core that is free
 
 module _ {cs last last' : List ℕ} {moves : ℕ} (s : Seated cs last last' moves) where
-  pub seated-size : length last' ≡ length last
-  seated-size = ap length s.lasts ∙ length-each (length last) _
-
   module _ (x k : ℕ) (low : 1 ≤ x) (high : x ≤ length last) (none : count (eqb x) cs ≡ 0) where
     last-here : at last' x ≡ at last x
     last-here = ap (λ (l : List ℕ). at l x) s.lasts ∙ at_each (length last) (last_of last cs) x low high ∙ rw (placed-none cs x none)

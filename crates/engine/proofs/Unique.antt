@@ -8,5 +8,5 @@ pub release_once : One release.Post (λ κs r s. s.0.now)
 release_once κs a x y s t p q = both p q
 
 -- every list of the slot, its moves and its misses
-pub slot_once : One slot.Post (λ κs r s. stepped s.1.1.1.0.now s.1.1.1.1.0.now s.1.1.1.1.1.0.now s.1.1.1.1.1.1.0.now s.1.1.1.1.1.1.1.0.now s.1.1.1.1.1.1.1.1.0.now r.moves r.misses)
+pub slot_once : One slot.Post (λ κs r s. stepped s.1.0.now s.1.1.0.now s.1.1.1.0.now s.1.1.1.1.0.now s.1.1.1.1.1.0.now s.1.1.1.1.1.1.0.now r.moves r.misses)
 slot_once κs a x y s t p q = both p q

@@ -4,6 +4,7 @@ ghost use Rattle.engine.specs.Placing.{Idle};
 ghost use Rattle.engine.specs.Step.{stepped, step_on, Ready};
 
 use crate::choose::choose;
+use crate::columns::Columns;
 use crate::end::end;
 use crate::place::place;
 
@@ -14,13 +15,11 @@ pub struct SlotCounts {
     pub misses: u32,
 }
 
-// `c` and `t` have each task's C and T, `ranks` the tasks in priority order, `phase` the slots since each task's last release.
-// The jobs of the slot are released in `left` before it, and those of the next slot after it. No core holds a task before it; the
-// placing is put into `cores`.
+// `phase` has the slots since each task's last release. The jobs of the slot are released in `left` before it, and those of the next
+// slot after it. No core holds a task before it; the placing is put into `cores`.
+// The five lists that change are lent one by one: a struct of them would ask a clause for each, that it is still the same list.
 pub fn slot(
-    c: &[u32],
-    t: &[u32],
-    ranks: &[u8],
+    columns: Columns<'_>,
     phase: &mut [u32],
     left: &mut [u32],
     last: &mut [u8],
@@ -28,13 +27,13 @@ pub fn slot(
     dropped: &mut [u32],
     cores: &mut [u8],
 ) -> SlotCounts
-    requires { Ready (length cores.old) c.now t.now ranks.now phase.old left.old last.old done.old dropped.old × Idle cores.old }
-    ensures { stepped phase.new left.new last.new done.new dropped.new cores.new result.moves result.misses ≡ step_on (length cores.old) c.now t.now ranks.now phase.old left.old last.old done.old dropped.old }
+    requires { Ready (length cores.old) columns.c.now columns.t.now columns.ranks.now phase.old left.old last.old done.old dropped.old × Idle cores.old }
+    ensures { stepped phase.new left.new last.new done.new dropped.new cores.new result.moves result.misses ≡ step_on (length cores.old) columns.entry.c.now columns.entry.t.now columns.entry.ranks.now phase.old left.old last.old done.old dropped.old }
 {
     let mut chosen = [0u8; 32];
     let m = cores.len();
-    let k = choose(ranks, left, &mut chosen[..m]);
+    let k = choose(columns.ranks, left, &mut chosen[..m]);
     let moves = place(&chosen[..k], last, cores, left, done);
-    let misses = end(c, t, phase, left, dropped);
+    let misses = end(columns, phase, left, dropped);
     SlotCounts { moves, misses }
 }

@@ -1,11 +1,11 @@
 -- A walk along a list that puts f of each entry into the same place of another: what the other is after i steps.
-use Prim.Native.Nat.{ℕ, zero, suc, ◌+◌, ◌≤◌, ◌<◌}
+use Prim.Native.Nat.{ℕ, zero, suc, ◌+◌, ◌<◌}
 use mathlib.Core.Path.{◌≡◌, refl, sym, ap, ◌∙◌}
-use mathlib.Core.List.{List, [], ◌∷◌, ◌++◌, map, map-append, append-nil}
+use mathlib.Core.List.{List, [], ◌∷◌, ◌++◌, map, map-append}
 use native.Mathlib.Numerals.{add-one}
 use native.Mathlib.Omega.{arith}
-use lib.ListN.{length, get_or, take, drop, set, replicate, length-map, drop_of_length-le}
-use lib.Seq.{take-suc, take_all, drop-cons, length-take-le, set_at, append_snoc}
+use lib.ListN.{length, get_or, take, drop, set, replicate, length-map}
+use lib.Seq.{take-suc, drop-cons, length-take-le, set_at, append_snoc}
 
 -- after i steps
 abbrev pub copied : {A B : Type 0} → (A → B) → List A → List B → ℕ → List B
@@ -23,10 +23,6 @@ module _ {A B : Type 0} (f : A → B) (d : A) (e : B) (xs : List A) (before : Li
       in
       let one : map f (take (suc i) xs) ≡ front ++ (f (get_or xs i d) ∷ []) = ap (map f) (take-suc xs i d more) ∙ map-append f (take i xs) (get_or xs i d ∷ []) in
       put ∙ rw (add-one, one, here) (sym (append_snoc front (f (get_or xs i d)) (drop (suc i) before)))
-
-  -- the end of the walk
-  pub copied_end : {cur : List B} → length xs ≤ i → length before ≤ i → cur ≡ copied f xs before i → cur ≡ map f xs
-  copied_end done full at = at ∙ rw (take_all i xs done, drop_of_length-le before full, append-nil)
 
 -- f of each entry of a list of one value
 pub map-replicate : {A B : Type 0} (f : A → B) (k : ℕ) (a : A) → map f (replicate k a) ≡ replicate k (f a)

@@ -1,5 +1,4 @@
--- Digits read and written one at a time: what one more digit does to a number that is read from the front, and to a field
--- that is written from the back.
+-- Digits read one at a time from the front: what one more digit does to the number that is read.
 use Prim.Native.Nat.{ℕ, ◌+◌, ◌*◌, ◌^◌, ◌≤◌, ◌<◌}
 use mathlib.Core.Path.{◌≡◌, refl, sym, ap, ◌∙◌}
 use mathlib.Core.List.{List, ◌∷◌}
@@ -10,11 +9,8 @@ use native.Mathlib.Omega.{arith}
 use lib.Dec.{lit<}
 use lib.ListN.{length, get_or, drop, drop_of_length-le}
 use lib.Seq.{drop-cons}
-use Rattle.laws.specs.Digits.{digit, digit_value, field, value_after, value}
+use Rattle.laws.specs.Digits.{digit_value, value_after, value}
 use Rattle.laws.proofs.Digits.{digit_value_some}
-use Rattle.laws.proofs.Backwards.{InPlaces}
-
--- ---- a number read from the front
 
 module _ (v b : ℕ) (bs : List ℕ) where
   -- one more digit
@@ -70,9 +66,3 @@ module _ (bs : List ℕ) where
   pub reading_ends : (v i : ℕ) → Reading bs v i → length bs ≤ i → value bs ≡ some v
   unfolding value_after
   reading_ends v i r h = sym r.same ∙ rw (drop_of_length-le bs h)
-
--- ---- a field written from the back
-
-pub field-places : InPlaces field 16 digit
-unfolding field
-field-places = record { none = λ v. refl; more = λ w v. refl }

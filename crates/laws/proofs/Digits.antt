@@ -8,10 +8,12 @@ use mathlib.Core.Option.{none, some, some-injective}
 use native.Mathlib.Nat.{add-zero, add-suc, pow-suc, pow-succ', mod-lt, mod-eq_of_lt, div-one, div-lt_iff_lt-mul, div-div-eq-div-mul, mul-add-div_right, mul-add-mod_self_right, one-le-pow}
 use native.Mathlib.Omega.{arith}
 use lib.Dec.{T, leb, ltb, leb→le, lit<}
-use lib.ListN.{length, get_or, length-append}
+use lib.ListN.{length, get_or}
 use lib.Arith.{digits_lt, digits_div, mod-mul}
 use borrow.Author.Tests.{ltb-true, ltb-false, lt-ltb, le-ltb, le-leb, lt-leb}
 use Rattle.laws.specs.Digits.{digit, digit_value, field, value_after, value}
+use Rattle.laws.specs.Places.{places}
+use Rattle.laws.proofs.Backwards.{length-places}
 use Rattle.laws.proofs.Tests.{decide, and_left, and_right}
 use Rattle.laws.proofs.Options.{then_some, cond_some, guard_some}
 
@@ -64,11 +66,15 @@ digit_value_some b d e = ⊎_elim low high (cond_some (leb 48 b && leb b 57) e)
 
 -- ---- fields
 
+-- a field is a number in places
+pub field_places : (w v : ℕ) → field w v ≡ places 16 digit w v
+unfolding field places
+field_places zero v = refl
+field_places (suc w) v = ap (λ (ds : List ℕ). ds ++ (digit (v % 16) ∷ [])) (field_places w (v / 16))
+
 -- a field of w digits is w bytes long
 pub length-field : (w v : ℕ) → length (field w v) ≡ w
-unfolding field
-length-field zero v = refl
-length-field (suc w) v = length-append (field w (v / 16)) (digit (v % 16) ∷ []) ∙ omega (arith, length-field w (v / 16))
+length-field w v = rw field_places (length-places 16 digit w v)
 
 -- a field of w digits goes by what its number leaves of 16 ^ w
 pub field-low : (w u v : ℕ) → field w (u * 16 ^ w + v) ≡ field w v

@@ -7,7 +7,7 @@ use mathlib.Core.List.{List, [], ◌∷◌, ◌++◌, map, append-nil, append_as
 use native.Mathlib.Nat.{add-zero, add-suc, suc-add, not-suc-le-zero}
 use native.Mathlib.Numerals.{add-one, sub-one}
 use native.Mathlib.Omega.{arith}
-use lib.ListN.{length, get_or, take, drop, set, length-append, take-append-drop}
+use lib.ListN.{length, get_or, take, drop, set, take-append-drop}
 use lib.Seq.{drop-cons, drop-length, drop-drop, drop-set-lt, append_snoc, take-suc-set, length-take-le, set_at, take_at, get_or_at}
 use Rattle.laws.specs.Lists.{count, from, numbers, each, at}
 use Rattle.laws.proofs.Each.{length-each}
@@ -78,9 +78,6 @@ module _ (l : List ℕ) (n : ℕ) where
 module _ (xs tail : List ℕ) {l : List ℕ} {k : ℕ} (number : k ≡ length xs) (entries : l ≡ xs ++ tail) (rest : List ℕ) where
   pub front-taken : take k (l ++ rest) ≡ xs
   front-taken = rw (entries, append_assoc) (take_at xs (tail ++ rest) k (sym number))
-
-  pub front_fits : k ≤ length (l ++ rest)
-  front_fits = omega (arith, length-append l rest, ap length entries, length-append xs tail)
 
 -- positions counted from 1 and from 0
 pub at_next : (l : List ℕ) (i : ℕ) → at l (i + 1) ≡ get_or l i 0

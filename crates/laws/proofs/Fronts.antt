@@ -1,14 +1,10 @@
--- Lists kept at the front of a longer list that is filled up with one value: what is put there is found there again; and a
--- walk that puts f 1, f 2, .. there.
+-- Lists kept at the front of a longer list that is filled up with one value: what is put there is found there again.
 use Prim.Native.Nat.{ℕ, zero, suc, ◌+◌, ◌-◌, ◌≤◌, ◌<◌}
 use mathlib.Core.Path.{◌≡◌, refl, sym, ap, ◌∙◌}
 use mathlib.Core.List.{List, [], ◌∷◌, ◌++◌, map, map-map, map-append}
 use native.Mathlib.Omega.{arith}
 use lib.ListN.{length, get_or, take, drop, set, replicate, length-append, length-map, length-drop, length-replicate, get_or-replicate, take-append-drop}
 use lib.Seq.{take_at, set_at, append_snoc, get_or-append-add, length-take-le, get_or-drop, ext_get_or}
-use Rattle.laws.specs.Lists.{numbers}
-use Rattle.laws.proofs.Each.{length_from}
-use Rattle.laws.proofs.Filling.{numbers_more}
 
 map_back : {A : Type 0} (f : A → A) → ((x : A) → f x ≡ x) → (l : List A) → map f l ≡ l
 map_back f h [] = refl
@@ -59,25 +55,3 @@ module _ {A B : Type 0} (into : B → A) (d : A) (size : ℕ) where
       everywhere zero j = refl
       everywhere (suc n) zero = refl
       everywhere (suc n) (suc j) = everywhere n j
-
-  -- after i steps
-  pub record Fronting (f : ℕ → B) (n : ℕ) (now : List A) (i : ℕ) : Type 0 where
-    pub few : n ≤ size
-    pub within : i ≤ n
-    pub same : now ≡ front into d size (map f (numbers i))
-
-  module _ (f : ℕ → B) (n : ℕ) where
-    module _ {now : List A} {i : ℕ} (g : Fronting f n now i) where
-      pub fronting_goes_on : {a : A} → i < n → a ≡ into (f (i + 1)) → Fronting f n (set now i a) (i + 1)
-      fronting_goes_on less e =
-          let len : length (map f (numbers i)) ≡ i = length-map (numbers i) f ∙ length_from 1 i in
-          record {
-            few = g.few;
-            within = omega arith;
-            same = rw (g.same, e) (front_more (map f (numbers i)) (f (i + 1)) i len (omega (arith, g.few))) ∙ ap (front into d size) (sym (numbers_more f i));
-          }
-
-      pub fronting_ends : n ≤ i → now ≡ front into d size (map f (numbers n))
-      fronting_ends h =
-          let e : i ≡ n = omega (arith, g.within) in
-          g.same ∙ ap (λ (k : ℕ). front into d size (map f (numbers k))) e

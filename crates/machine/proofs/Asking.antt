@@ -1,12 +1,13 @@
 -- What is asked of a struct: the first test is that it is well formed.
 use Rattle.std.proofs.Common.{Err}
-use Prim.Native.Nat.{ℕ}
+use Prim.Native.Nat.{ℕ, ◌≤◌}
 use mathlib.Core.Path.{◌≡◌, refl, sym, ap, ◌∙◌, subst}
 use mathlib.Core.Bool.{Bool, true, false, cond, not, ◌&&◌}
 use mathlib.Core.List.{List, [], ◌∷◌}
 use lib.Dec.{T}
 use lib.ListN.{length}
 use Rattle.laws.proofs.Tests.{to_T, and_left, and_right}
+use Rattle.rules.specs.Limits.{tasks_max}
 use Rattle.rules.specs.Refusals.{Test, test, Answer, refused, settle}
 use Rattle.rules.specs.States as States
 use Rattle.rules.specs.Forms.{well_formed}
@@ -14,13 +15,18 @@ use Rattle.rules.specs.Answers.{lay, room_test, state_test}
 use Rattle.rules.specs.declared.refusal.Refusal.TheVariants.{BadState}
 use Rattle.tables.specs.Writes.{made, wrote, wrote_text}
 use Rattle.machine.specs.declared.state.State.{State}
-use Rattle.machine.specs.Views.{view, padded, formed}
+use Rattle.machine.specs.Views.{tasks, view, padded, formed}
 use Rattle.machine.specs.Answers.{asked}
+use Rattle.machine.proofs.Packing.{padded-few}
 
 -- the struct is padded, and what it says is well formed
 pub formed-says : (s : State) → formed s ≡ true → T (padded s) × T (well_formed (view s))
 unfolding formed
 formed-says s e = (and_left (padded s) (well_formed (view s)) (to_T e), and_right (padded s) (well_formed (view s)) (to_T e))
+
+-- so it has places for all tasks: `try_from`'s own attribute names this
+pub formed_few : (s : State) → formed s ≡ true → tasks s ≤ tasks_max
+formed_few s e = padded-few s (formed-says s e).0
 
 module _ {A : Type 0} (s : State) (tests : States.State → List Test) (value : States.State → A) where
   -- the answer, as it goes by the padding and by the form of the state

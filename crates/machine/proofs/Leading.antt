@@ -19,16 +19,15 @@ use Rattle.rules.specs.declared.refusal.Refusal.TheVariants.{BadTasks, BadState}
 use Rattle.rules.specs.Runs.{lead}
 use Rattle.reading_laws.specs.Bounds.{Within, RowInBounds}
 use Rattle.reading_laws.proofs.Tests.{number-iff}
-use Rattle.slot_laws.proofs.Forms.{Kept, formed-kept, formed-clock}
 use Rattle.tables.specs.Views as Tables
 use Rattle.tables.specs.declared.table.Row.{Row}
 use Rattle.machine.specs.declared.state.State.{State}
-use Rattle.machine.specs.Full.{Full}
+use Rattle.machine.specs.declared.formed.Formed.{Formed}
 use Rattle.machine.specs.Views.{tasks, units, view, formed}
 use Rattle.machine.specs.Answers.{Small, asked, lead_answer}
-use Rattle.machine.proofs.Viewing.{at-viewed, size-view, row_of-view}
-use Rattle.machine.proofs.Packing.{padded-few}
-use Rattle.machine.proofs.Asking.{formed-says, asked_ill, asked_well}
+use Rattle.machine.proofs.Viewing.{at-viewed, row_of-view}
+use Rattle.machine.proofs.Testing.{kept, soon, sizes}
+use Rattle.machine.proofs.Asking.{asked_ill, asked_well}
 
 -- ---- what a task was given, times its period
 
@@ -48,53 +47,46 @@ row_here s i = get_or s.table.rows (i - 1) Tables.zero_row
 abbrev pub given_here : State → ℕ → ℕ
 given_here s i = (get_or s.done (i - 1) (units 0)).0
 
-module _ (s : State) (full : Full s) (ok : formed s ≡ true) (i : ℕ) (low : 1 ≤ i) (high : i ≤ tasks s) where
-  kept : Kept (view s)
-  kept = formed-kept (view s) (formed-says s ok).1
-
-  few : tasks s ≤ tasks_max
-  few = padded-few s (formed-says s ok).0
+module _ (f : Formed) (i : ℕ) (low : 1 ≤ i) (high : i ≤ tasks f.state) where
+  abbrev s : State
+  s = f.state
 
   place : i - 1 + 1 ≡ i
   place = omega arith
 
   row_here_lem : row_of (view s).table i ≡ Tables.view_row (row_here s i)
   unfolding view
-  row_here_lem = ap (row_of (Tables.view s.table)) (sym place) ∙ row_of-view s.table full.rows few (i - 1) (omega arith)
+  row_here_lem = ap (row_of (Tables.view s.table)) (sym place) ∙ row_of-view s.table f.full.rows f.few (i - 1) (omega arith)
 
   done-here : at (view s).done i ≡ given_here s i
   unfolding view
   done-here =
-      ap (at (view s).done) (sym place) ∙ at-viewed (λ x. x.0) (tasks s) s.done (omega (arith, full.done, few)) (units 0) (i - 1) refl (omega arith)
+      ap (at (view s).done) (sym place) ∙ at-viewed (λ x. x.0) (tasks s) s.done (omega (arith, f.full.done, f.few)) (units 0) (i - 1) refl (omega arith)
 
   clock-here : (view s).clock ≡ s.clock.0
   unfolding view
   clock-here = refl
 
   inside : i ≤ size (view s).table
-  unfolding view
-  inside = omega (arith, size-view s.table full.rows few)
+  inside = omega (arith, sizes f)
 
   -- no more than what was released
   given_few : given_here s i ≤ (row_here s i).c * ((s.clock.0 + ((row_here s i).t - 1)) / (row_here s i).t)
   unfolding Rows.released Rows.releases_before Rows.demand
   given_few =
-      let books = rw (row_here_lem, clock-here, done-here) at (kept.task i low inside).books in
+      let books = rw (row_here_lem, clock-here, done-here) at ((kept f).task i low inside).books in
       omega arith
 
   fits : RowInBounds (Tables.view_row (row_here s i))
-  fits = rw row_here_lem at (kept.taken.row i low inside)
-
-  soon : s.clock.0 ≤ clock_max
-  soon = rw clock-here at (formed-clock (view s) (formed-says s ok).1)
+  fits = rw row_here_lem at ((kept f).taken.row i low inside)
 
   -- its parts are small
   pub lead-small : Small (given_here s i * (row_here s i).t) (s.clock.0 * (row_here s i).c)
   lead-small =
       let short : (row_here s i).c ≤ 65_535 = omega (arith, fits.fits, fits.period) in
       record {
-        left = worked-small (row_here s i).c (row_here s i).t s.clock.0 (given_here s i) fits.fits fits.period soon given_few;
-        right = omega (arith, mul-le-mul soon short);
+        left = worked-small (row_here s i).c (row_here s i).t s.clock.0 (given_here s i) fits.fits fits.period (soon f) given_few;
+        right = omega (arith, mul-le-mul (soon f) short);
       }
 
   -- and their difference is the lead
@@ -108,42 +100,37 @@ module _ (s : State) (full : Full s) (ok : formed s ≡ true) (i : ℕ) (low : 1
 within : (x low high : ℕ) → outside x low high ≡ false → Within low high x
 within x low high e = (number-iff low high x).0 (rw e tt)
 
-module _ (s : State) (i : ℕ) where
-  -- the test of the task, after that of the state
-  abbrev tests : States.State → List Test
-  tests st = test (outside i 1 (size st.table)) BadTasks ∷ []
+-- the test of the task, after that of the state
+abbrev tests : ℕ → States.State → List Test
+tests i st = test (outside i 1 (size st.table)) BadTasks ∷ []
 
-  -- the state is not well formed
-  pub lead_ill : formed s ≡ false → Err BadState ≡ lead_answer (asked s (λ st. ask_lead st i))
+-- the state is not well formed
+pub lead_ill : (s : State) (i : ℕ) → formed s ≡ false → Err BadState ≡ lead_answer (asked s (λ st. ask_lead st i))
+unfolding ask_lead
+lead_ill s i e = ap lead_answer (sym (asked_ill s (tests i) (λ st. lead st i) e))
+
+module _ (f : Formed) {s : State} (same : f.state ≡ s) (i : ℕ) where
+  -- there is no such task
+  pub lead-out : outside i 1 (tasks f.state) ≡ true → Err BadTasks ≡ lead_answer (asked s (λ st. ask_lead st i))
   unfolding ask_lead
-  lead_ill e = ap lead_answer (sym (asked_ill s tests (λ st. lead st i) e))
+  lead-out e = rw (← same) (sym (ap lead_answer (asked_well f.state (tests i) (λ st. lead st i) f.good) ∙ rw (sizes f, e)))
 
-  module _ (full : Full s) (ok : formed s ≡ true) where
-    sizes : size (view s).table ≡ tasks s
-    unfolding view
-    sizes = size-view s.table full.rows (padded-few s (formed-says s ok).0)
+  -- there is: its place in the arrays, and the parts of its lead, which are small
+  module _ (e : outside i 1 (tasks f.state) ≡ false) where
+    pub lead-place : (1 ≤ i) × (i - 1 < tasks_max)
+    lead-place =
+        let w = within i 1 (tasks f.state) e in
+        (w.least, omega (arith, w.least, w.most, f.few))
 
-    -- there is no such task
-    pub lead-out : outside i 1 (tasks s) ≡ true → Err BadTasks ≡ lead_answer (asked s (λ st. ask_lead st i))
-    unfolding ask_lead
-    lead-out e = sym (ap lead_answer (asked_well s tests (λ st. lead st i) ok) ∙ rw (sizes, e))
+    module _ {p q : ℕ} (ep : p ≡ (row_here f.state i).t) (eq : q ≡ f.state.clock.0 * (row_here f.state i).c) where
+      pub lead_parts : Small (given_here f.state i * p) q
+      lead_parts =
+          let w = within i 1 (tasks f.state) e in
+          rw (ep, eq) (lead-small f i w.least w.most)
 
-    -- there is: its place in the arrays, and the parts of its lead, which are small
-    module _ (e : outside i 1 (tasks s) ≡ false) where
-      pub lead-place : (1 ≤ i) × (i - 1 < tasks_max)
-      lead-place =
-          let w = within i 1 (tasks s) e in
-          (w.least, omega (arith, w.least, w.most, padded-few s (formed-says s ok).0))
-
-      module _ {p q : ℕ} (ep : p ≡ (row_here s i).t) (eq : q ≡ s.clock.0 * (row_here s i).c) where
-        pub lead_parts : Small (given_here s i * p) q
-        lead_parts =
-            let w = within i 1 (tasks s) e in
-            rw (ep, eq) (lead-small s full ok i w.least w.most)
-
-        pub lead_in : (z : ℤ) → z ≡ pos (given_here s i * p) -ℤ pos q → Ok z ≡ lead_answer (asked s (λ st. ask_lead st i))
-        unfolding ask_lead
-        lead_in z h =
-            let w = within i 1 (tasks s) e in
-            let whole : z ≡ lead (view s) i = h ∙ rw (ep, eq) (sym (lead_is s full ok i w.least w.most)) in
-            ap Ok whole ∙ sym (ap lead_answer (asked_well s tests (λ st. lead st i) ok) ∙ rw (sizes, e))
+      pub lead_in : (z : ℤ) → z ≡ pos (given_here f.state i * p) -ℤ pos q → Ok z ≡ lead_answer (asked s (λ st. ask_lead st i))
+      unfolding ask_lead
+      lead_in z h =
+          let w = within i 1 (tasks f.state) e in
+          let whole : z ≡ lead (view f.state) i = h ∙ rw (ep, eq) (sym (lead_is f i w.least w.most)) in
+          ap Ok whole ∙ rw (← same) (sym (ap lead_answer (asked_well f.state (tests i) (λ st. lead st i) f.good) ∙ rw (sizes f, e)))

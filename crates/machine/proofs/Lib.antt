@@ -9,6 +9,7 @@ pub mod Passing
 pub mod Forming
 pub mod Starting
 pub mod Asking
+pub mod Testing
 pub mod Leading
 pub mod Totalling
 pub mod Unique

@@ -3,7 +3,7 @@ ghost use Rattle.std.specs.Prelude.{◌≡◌, pos, ◌-ℤ◌};
 ghost use Rattle.rules.specs.Answers.{ask_lead};
 ghost use Rattle.machine.specs.Answers.{asked, lead_answer, Small};
 
-use crate::form::is_formed;
+use crate::formed::Formed;
 use crate::state::State;
 use rules::kinds::is_outside;
 use rules::refusal::Refusal;
@@ -21,9 +21,7 @@ fn difference(a: u64, b: u64) -> i64
 pub fn lead(s: State, i: u32) -> Result<i64, Refusal>
     ensures { result ≡ lead_answer (asked s (λ st. ask_lead st i)) }
 {
-    if !is_formed(s) {
-        return Err(Refusal::BadState);
-    }
+    let s = Formed::try_from(s)?.state;
     let t = s.table;
     if is_outside(i, 1, t.n.0) {
         return Err(Refusal::BadTasks);

@@ -2,6 +2,7 @@
 #![tactic(auto)]
 
 pub mod form;
+pub mod formed;
 pub mod fresh;
 pub mod lead;
 pub mod state;

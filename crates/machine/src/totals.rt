@@ -4,10 +4,10 @@ ghost use Rattle.laws.specs.Lists.{sum};
 ghost use Rattle.rules.specs.Frames.{totals, frame};
 ghost use Rattle.rules.specs.Answers.{write_totals};
 ghost use Rattle.tables.specs.Writes.{made, wrote};
-ghost use Rattle.machine.specs.Views.{view, formed};
+ghost use Rattle.machine.specs.Views.{view};
 ghost use Rattle.machine.specs.Answers.{asked};
 
-use crate::form::is_formed;
+use crate::formed::Formed;
 use crate::state::State;
 use frames::start::write_type;
 use rules::frame_type::FrameType;
@@ -30,10 +30,10 @@ fn write_frame(out: &mut [u8], moves: u64, misses: u64, dropped: u64)
 }
 
 // The units dropped of all tasks.
-fn dropped_units(s: State) -> u64
-    requires { formed s ≡ true }
-    ensures { result ≡ sum (view s).dropped }
+fn dropped_units(formed: &Formed) -> u64
+    ensures { result ≡ sum (view formed.now.state).dropped }
 {
+    let s = &formed.state;
     s.dropped[..s.table.n.0 as usize].iter().map(|x| x.0).sum()
 }
 
@@ -42,10 +42,8 @@ fn dropped_units(s: State) -> u64
 pub fn write_totals(s: State, out: &mut [u8], at: usize) -> Result<usize, Refusal>
     ensures { made result out.new ≡ wrote 51 out.old (asked s (λ st. write_totals st out.old at)) }
 {
-    if !is_formed(s) {
-        return Err(Refusal::BadState);
-    }
+    let formed = Formed::try_from(s)?;
     room(out.len(), at, TOTALS_LENGTH)?;
-    write_frame(&mut out[at..], s.moves, s.misses, dropped_units(s));
+    write_frame(&mut out[at..], s.moves, s.misses, dropped_units(&formed));
     Ok(TOTALS_LENGTH)
 }

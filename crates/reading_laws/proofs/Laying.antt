@@ -5,7 +5,7 @@ use mathlib.Core.List.{List, [], ◌∷◌, ◌++◌}
 use native.Mathlib.Nat.{mul-le-mul_left}
 use native.Mathlib.Omega.{arith}
 use borrow.Rule.Slice.PartMut.{mid_of, put_mid}
-use lib.ListN.{length, drop, set, length-append, length-take, length-drop}
+use lib.ListN.{length, drop, set, length-append}
 use Rattle.laws.specs.Digits.{field}
 use Rattle.laws.proofs.Digits.{length-field}
 use Rattle.rules.specs.Answers.{lay}
@@ -64,10 +64,6 @@ module _ (out : List ℕ) where
         ∙ lay-front out (text ++ (line_feed ∷ []))
         ∙ ap (λ (k : ℕ). text ++ (line_feed ∷ []) ++ drop k out) whole
 
-  -- a line at the front of the buffer takes the place of as many bytes
-  pub line_kept : (line : List ℕ) {now : List ℕ} {n : ℕ} → length line ≡ n → n ≤ length out → now ≡ line ++ drop n out → length now ≡ length out
-  line_kept line {now} {n} len room e = ap length e ∙ length-append line (drop n out) ∙ omega (arith, length-drop n out)
-
 -- ---- pieces of one length
 
 -- the first i of n pieces stand there, one right after the other, and `text i` is what they are together
@@ -89,10 +85,6 @@ module _ {text : ℕ → List ℕ} {size n : ℕ} {out : List ℕ} where
       -- the next one ends within the buffer
       pub piece_fits : end + size ≤ length out
       piece_fits = omega (arith, mul-le-mul_left size missing, p.ends, p.room)
-
-      -- there is room for it
-      pub piece_room : size ≤ length (mid_of end (length now - end) now)
-      piece_room = omega (arith, piece_fits, length-take (length now - end) (drop end now), length-drop end now, p.kept)
 
       -- one more
       pub next_piece : {tail : List ℕ} (next : List ℕ) → length next ≡ size → text (i + 1) ≡ text i ++ next

@@ -1,17 +1,12 @@
 -- The text for any input: where it goes, and that it is never longer than the program's buffer.
 use Rattle.std.proofs.Common.{Result, Ok, Err}
-use Prim.Native.Nat.{ℕ, ◌-◌, ◌≤◌, min}
+use Prim.Native.Nat.{ℕ, ◌-◌, ◌≤◌}
 use mathlib.Core.Path.{◌≡◌, refl, sym, ap, ◌∙◌}
-use mathlib.Core.Bool.{true, false}
-use mathlib.Core.Logic.{⊎_elim}
 use mathlib.Core.List.{List, ◌++◌}
 use native.Mathlib.Omega.{arith}
-use borrow.Author.Tests.{ltb-true, ltb-false}
 use borrow.Rule.Slice.PartMut.{mid_of, put_mid}
-use lib.Dec.{ltb}
 use lib.ListN.{length, take, drop}
-use lib.Seq.{take_all}
-use Rattle.laws.proofs.Tests.{never, decide}
+use Rattle.laws.proofs.Tests.{never}
 use Rattle.rules.specs.Limits.{input_max}
 use Rattle.rules.specs.Refusals.{Answer, taken, refused, number_of}
 use Rattle.rules.specs.Tables as Rules
@@ -33,18 +28,6 @@ use Rattle.reports.proofs.Texts.{text_bound}
 use Rattle.reports.proofs.Whole.{length-report}
 use Rattle.tables.proofs.Written.{text_short, text-laid, text-written}
 use Rattle.reports.proofs.Replies.{length-refusal, reply-answer}
-
--- ---- the start of the input
-
-pub start_is : (input : List ℕ) (k : ℕ) → k ≡ min (length input) input_max → take k input ≡ take input_max input
-start_is input k e =
-    ⊎_elim (λ (l : ltb input_max (length input) ≡ true).
-    let cut : k ≡ input_max = omega (arith, ltb-true input_max (length input) l) in
-    ap (λ (n : ℕ). take n input) cut)
-    (λ (l : ltb input_max (length input) ≡ false).
-    let short : length input ≤ input_max = ltb-false input_max (length input) l in
-    take_all k input (omega arith) ∙ sym (take_all input_max input short))
-    (decide (ltb input_max (length input)))
 
 -- ---- where the text goes
 

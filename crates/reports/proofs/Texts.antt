@@ -1,5 +1,5 @@
 -- The text of an accepted table: the slots and the totals after its head, and how long it is.
-use Rattle.std.proofs.Common.{Result, Option, Some, None, Ok}
+use Rattle.std.proofs.Common.{Result, Option, None, Ok}
 use Prim.Native.Nat.{ℕ, ◌+◌, ◌-◌, ◌*◌, ◌≤◌, ◌<◌}
 use mathlib.Core.Path.{◌≡◌, refl, sym, ap, ◌∙◌}
 use mathlib.Core.List.{List, ◌++◌}
@@ -27,7 +27,7 @@ use Rattle.reading_laws.proofs.Lays.{lay-front, length-lay}
 use Rattle.tables.specs.Views.{view}
 use Rattle.tables.specs.Writes.{Wrote, made, wrote}
 use Rattle.tables.specs.declared.table.Table.{Table}
-use Rattle.tables.proofs.Bounds.{repeat-taken, repeat-refused}
+use Rattle.tables.proofs.Bounds.{repeat-refused}
 use Rattle.reading_laws.proofs.Laying.{Laid, more, laid-front}
 use Rattle.machine.specs.Tables.{Opened}
 use Rattle.machine.specs.Views.{pack}
@@ -42,14 +42,9 @@ use Rattle.reports.proofs.Taking.{run-taken, totals-taken}
 
 -- ---- how many slots are run
 
-module _ (rows : List Row) {a : Option Repeat} (is : a ≡ repeat_of (repeat_length rows)) where
-  -- H is within its bound
-  pub found : {h : Repeat} → a ≡ Some h → h.0 ≡ repeat_length rows
-  found {h} e = ap (λ (x : Repeat). x.0) (sym (repeat-taken (repeat_length rows) h (sym is ∙ e)).1)
-
-  -- H is above its bound
-  pub above : a ≡ None → slots_max < repeat_length rows
-  above e = omega (arith, repeat-refused (repeat_length rows) (repeat_pos rows) (sym is ∙ e))
+-- H is above its bound
+pub above : (rows : List Row) {a : Option Repeat} → a ≡ repeat_of (repeat_length rows) → a ≡ None → slots_max < repeat_length rows
+above rows is e = omega (arith, repeat-refused (repeat_length rows) (repeat_pos rows) (sym is ∙ e))
 
 -- ---- how long the text is
 

@@ -1,4 +1,4 @@
-// Frames `11` and `12` of an accepted table.
+// Frames `11` and `12` of an accepted table. What is asked is of the table and of the buffer at once, so that it is no type of either.
 ghost use Rattle.std.specs.Prelude.{◌≡◌, ◌++◌, ◌+◌, ◌*◌, drop};
 ghost use Rattle.rules.specs.Runs.{verdict_line, order_line};
 ghost use Rattle.rules.specs.Tables.{size};
@@ -7,7 +7,6 @@ ghost use Rattle.tables.specs.Views.{view};
 ghost use Rattle.reports.specs.Heads.{Room, head, head_length};
 
 use tables::table::Table;
-use verdicts::table::Judgement;
 
 // How many bytes the two frames take.
 pub fn head_length(t: Table) -> usize
@@ -21,12 +20,8 @@ fn write_judgement(out: &mut [u8], t: Table)
     requires { Room t 15 out.old }
     ensures { out.new ≡ verdict_line (view t) ++ drop 15 out.old }
 {
-    let Judgement {
-        verdict,
-        heavy,
-        repeat,
-    } = verdicts::table::verdict(t).unwrap();
-    verdicts::lines::write_verdict(out, verdict, heavy, repeat.0);
+    let j = verdicts::table::verdict(t).unwrap();
+    verdicts::lines::write_verdict(out, j.verdict, j.heavy, j.repeat.0);
 }
 
 // Frame `12` at the front of the lent part; nothing after it differs.

@@ -21,7 +21,7 @@ const REFUSAL_LENGTH: usize = 9;
 fn read_input(input: &[u8]) -> Result<Table, Refused>
     ensures { result ≡ table_answer (read_file (take input_max input.now)) }
 {
-    tables::file::read_file(&input[..input.len().min(INPUT_MAX)])
+    tables::file::read_file(&input[..INPUT_MAX.min(input.len())])
 }
 
 // How many bytes the text for an answer takes.

@@ -36,10 +36,6 @@ module _ {A B : Type 0} (of : A → B) where
       rw (← same)
 
   -- the same where the line is left out
-  pub plain_ok : (a : Answer A) {b : B} → plain_reply of a ≡ Ok b → (x : A) × (a ≡ taken x) × (of x ≡ b)
-  plain_ok (taken x) {b} e = (x, refl, cc)
-  plain_ok (refused r l) {b} e = never cc
-
   pub plain_err : (a : Answer A) {r : Refusal} → plain_reply of a ≡ Err r → (l : ℕ) × (a ≡ refused r l)
   plain_err (taken x) {r} h = never cc
   plain_err (refused q l) {r} h = (l, cc)

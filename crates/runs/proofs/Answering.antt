@@ -10,7 +10,7 @@ use borrow.Author.Tests.{lt-ltb, le-ltb}
 use borrow.Rule.Slice.PartMut.{mid_of, put_mid}
 use lib.Dec.{ltb}
 use lib.ListN.{length}
-use Rattle.rules.specs.Limits.{cores_max, clock_max}
+use Rattle.rules.specs.Limits.{clock_max}
 use Rattle.rules.specs.Refusals.{answered}
 use Rattle.rules.specs.Runs.{slot_lines}
 use Rattle.rules.specs.Answers.{room_test, run_slots}
@@ -18,7 +18,6 @@ use Rattle.rules.specs.Results.{room_reply}
 use Rattle.rules.specs.declared.refusal.Refusal.{Refusal}
 use Rattle.rules.specs.declared.refusal.Refusal.TheVariants.{NoRoom, PastClock, BadState}
 use Rattle.rules.proofs.Results.{room_short, room_there}
-use Rattle.slot_laws.proofs.Forms.{formed-clock, formed-kept}
 use Rattle.slot_laws.proofs.Lengths.{length-slot_lines}
 use Rattle.slot_laws.proofs.Answers.{run_tests, ran_so}
 use Rattle.reading_laws.proofs.Lays.{lay-lent}
@@ -28,25 +27,14 @@ use Rattle.machine.specs.declared.state.State.{State}
 use Rattle.machine.proofs.Asking.{asked_ill, asked_well}
 use Rattle.runs.specs.Slots.{frame_length}
 use Rattle.runs.specs.Answers.{RunFormed, RunEnd, run_end, ended, run_answer}
-use Rattle.runs.proofs.Parting.{formed_of}
 
-module _ (s : State) where
-  clock_is : (view s).clock ≡ s.clock.0
-  unfolding view
-  clock_is = refl
+clock_is : (s : State) → (view s).clock ≡ s.clock.0
+unfolding view
+clock_is s = refl
 
-  lines-length : (count : ℕ) → length (slot_lines count (view s)) ≡ count * frame_length s.table.m.0
-  unfolding view Tables.view
-  lines-length count = length-slot_lines count (view s)
-
-  -- a struct that is well formed is within the bounds
-  module _ (good : formed s ≡ true) where
-    pub in_bounds : s.clock.0 ≤ clock_max
-    in_bounds = rw (← clock_is) (formed-clock (view s) (formed_of s good))
-
-    pub few_cores : s.table.m.0 ≤ cores_max
-    unfolding view Tables.view
-    few_cores = (formed-kept (view s) (formed_of s good)).taken.cores_high
+lines-length : (s : State) (count : ℕ) → length (slot_lines count (view s)) ≡ count * frame_length s.table.m.0
+unfolding view Tables.view
+lines-length s count = length-slot_lines count (view s)
 
 module _ (s : State) (count : ℕ) (out : List ℕ) (place : ℕ) where
   pub refuse_state : formed s ≡ false → run_end (Err BadState) out ≡ run_answer s count out place

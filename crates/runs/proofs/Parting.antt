@@ -1,10 +1,8 @@
 -- The walks along the tasks that take a state apart and put it together.
 use Prim.Native.Nat.{ℕ, ◌+◌, ◌-◌, ◌^◌, ◌%◌, ◌≤◌, ◌<◌, zero-le}
 use mathlib.Core.Path.{◌≡◌, refl, sym, ap, ◌∙◌}
-use mathlib.Core.Bool.{true}
 use mathlib.Core.List.{List, ◌∷◌, ◌++◌, map, map-map, map-id}
 use native.Mathlib.Omega.{arith}
-use lib.Dec.{T}
 use lib.ListN.{length, get_or, take, drop, set, replicate, length-map}
 use lib.Seq.{length-take-le}
 use Rattle.laws.specs.Lists.{at}
@@ -14,21 +12,19 @@ use Rattle.laws.proofs.Copying.{copied, copied_turn}
 use Rattle.rules.specs.Limits.{tasks_max}
 use Rattle.rules.specs.Rows as Rules
 use Rattle.rules.specs.Tables as RuleTables
-use Rattle.rules.specs.Forms.{well_formed}
 use Rattle.rules.specs.declared.kinds.CoreNumber.{CoreNumber}
 use Rattle.rules.specs.declared.kinds.TaskNumber.{TaskNumber}
 use Rattle.rules.specs.declared.kinds.Units.{Units}
-use Rattle.slot_laws.proofs.Forms.{Kept, formed-kept, formed-clock}
 use Rattle.engine.specs.Step.{phases_in}
 use Rattle.engine.proofs.Steps.{released-fits}
 use Rattle.tables.specs.Views as Tables
 use Rattle.tables.specs.declared.table.Row.{Row}
 use Rattle.machine.specs.Full.{Full}
-use Rattle.machine.specs.Views.{tasks, task_number, core_number, units, viewed, packed, view, padded, formed}
+use Rattle.machine.specs.Views.{tasks, task_number, core_number, units, viewed, packed, view}
 use Rattle.machine.specs.declared.state.State.{State}
-use Rattle.machine.proofs.Viewing.{at-viewed, size-view, row_of-view}
-use Rattle.machine.proofs.Packing.{padded-few}
-use Rattle.machine.proofs.Asking.{formed-says}
+use Rattle.machine.specs.declared.formed.Formed.{Formed}
+use Rattle.machine.proofs.Viewing.{at-viewed, row_of-view}
+use Rattle.machine.proofs.Testing.{kept, soon, sizes}
 use Rattle.runs.specs.Parts.{plain, parts_of, joined}
 
 -- ---- arrays whose first entries were set
@@ -55,42 +51,32 @@ module _ {A : Type 0} (make : ℕ → A) where
 
 -- ---- a well formed struct
 
-module _ (s : State) (f : formed s ≡ true) where
-  pub padded_of : T (padded s)
-  padded_of = (formed-says s f).0
+module _ (f : Formed) (i : ℕ) (more : i < tasks f.state) where
+  abbrev s : State
+  s = f.state
 
-  pub formed_of : T (well_formed (view s))
-  formed_of = (formed-says s f).1
+  in_table : i + 1 ≤ RuleTables.size (view s).table
+  in_table = omega (arith, sizes f)
 
-  pub few_tasks : tasks s ≤ tasks_max
-  few_tasks = padded-few s padded_of
+  pub period-low : 1 ≤ (get_or s.table.rows i Tables.zero_row).t
+  unfolding view
+  period-low =
+      let fits = rw (row_of-view s.table f.full.rows f.few i more) at ((kept f).taken.row (i + 1) (omega arith) in_table) in
+      omega (arith, fits)
 
-  kept : Kept (view s)
-  kept = formed-kept (view s) formed_of
-
-  module _ (full : Full s) (i : ℕ) (more : i < tasks s) where
-    in_table : i + 1 ≤ RuleTables.size (Tables.view s.table)
-    in_table = omega (arith, size-view s.table full.rows few_tasks)
-
-    pub period-low : 1 ≤ (get_or s.table.rows i Tables.zero_row).t
-    unfolding view
-    period-low =
-        let fits = rw (row_of-view s.table full.rows few_tasks i more) at (kept.taken.row (i + 1) (omega arith) in_table) in
-        omega (arith, fits)
-
-    -- a task's left work, units done and units dropped are what was released of it, which is little
-    pub units_small : ((get_or s.left i (units 0)).0 < 2 ^ 32) × ((get_or s.done i (units 0)).0 < 2 ^ 32) × ((get_or s.dropped i (units 0)).0 < 2 ^ 32)
-    unfolding view
-    units_small =
-        let column : (l : List Units) → length l ≡ tasks_max → at (viewed (λ (x : Units). x.0) (tasks s) l) (i + 1) ≡ (get_or l i (units 0)).0 =
-        λ l long. at-viewed (λ x. x.0) (tasks s) l (omega (arith, few_tasks)) (units 0) i refl more
-        in
-        let books = (kept.task (i + 1) (omega arith) in_table).books in
-        let few = released-fits kept (formed-clock (view s) formed_of) (i + 1) (omega arith) in_table in
-        let left_is = column s.left full.left in
-        let done_is = column s.done full.done in
-        let dropped_is = column s.dropped full.dropped in
-        (omega (arith, books, few, left_is), omega (arith, books, few, done_is), omega (arith, books, few, dropped_is))
+  -- a task's left work, units done and units dropped are what was released of it, which is little
+  pub units_small : ((get_or s.left i (units 0)).0 < 2 ^ 32) × ((get_or s.done i (units 0)).0 < 2 ^ 32) × ((get_or s.dropped i (units 0)).0 < 2 ^ 32)
+  unfolding view
+  units_small =
+      let column : (l : List Units) → length l ≡ tasks_max → at (viewed (λ (x : Units). x.0) (tasks s) l) (i + 1) ≡ (get_or l i (units 0)).0 =
+      λ l long. at-viewed (λ x. x.0) (tasks s) l (omega (arith, f.few)) (units 0) i refl more
+      in
+      let books = ((kept f).task (i + 1) (omega arith) in_table).books in
+      let few = released-fits (kept f) (soon f) (i + 1) (omega arith) in_table in
+      let left_is = column s.left f.full.left in
+      let done_is = column s.done f.full.done in
+      let dropped_is = column s.dropped f.full.dropped in
+      (omega (arith, books, few, left_is), omega (arith, books, few, done_is), omega (arith, books, few, dropped_is))
 
 -- ---- taken apart: after i tasks
 
@@ -110,20 +96,20 @@ pub record Parting (s : State) (c t ranks phase left last done dropped : List �
   pub dones : Copy (λ (x : Units). x.0) s.done zeros done i
   pub drops : Copy (λ (x : Units). x.0) s.dropped zeros dropped i
 
-pub start : (s : State) → formed s ≡ true → Full s → Parting s zeros zeros zeros zeros zeros zeros zeros zeros 0
-start s f full =
+pub start : (f : Formed) → Parting f.state zeros zeros zeros zeros zeros zeros zeros zeros 0
+start f =
     record {
-      full = full;
-      few = few_tasks s f;
+      full = f.full;
+      few = f.few;
       within = zero-le;
-      cs = copy_start _ full.rows refl;
-      ts = copy_start _ full.rows refl;
-      ranked = copy_start _ full.ranks refl;
-      phases = copy_start _ full.rows refl;
-      lefts = copy_start _ full.left refl;
-      lasts = copy_start _ full.last refl;
-      dones = copy_start _ full.done refl;
-      drops = copy_start _ full.dropped refl;
+      cs = copy_start _ f.full.rows refl;
+      ts = copy_start _ f.full.rows refl;
+      ranked = copy_start _ f.full.ranks refl;
+      phases = copy_start _ f.full.rows refl;
+      lefts = copy_start _ f.full.left refl;
+      lasts = copy_start _ f.full.last refl;
+      dones = copy_start _ f.full.done refl;
+      drops = copy_start _ f.full.dropped refl;
     }
 
 module _ {s : State} {c t ranks phase left last done dropped : List ℕ} {i : ℕ} (g : Parting s c t ranks phase left last done dropped i) where

@@ -15,20 +15,20 @@ use Rattle.rules.specs.States as States
 use Rattle.rules.specs.Runs.{after, slot_lines}
 use Rattle.priority_laws.proofs.Priority.{order-length}
 use Rattle.slot_laws.proofs.After.{after_table, after-ranks}
-use Rattle.slot_laws.proofs.Forms.{Kept, formed-kept}
+use Rattle.slot_laws.proofs.Forms.{Kept}
 use Rattle.slot_laws.proofs.Books.{after_kept}
 use Rattle.engine.specs.Step.{units_of, periods_of, phases_in}
 use Rattle.tables.specs.Views as Tables
-use Rattle.machine.specs.Full.{Full}
 use Rattle.machine.specs.Views.{tasks, task_number, core_number, units, packed, view, pack}
 use Rattle.machine.specs.declared.state.State.{State}
-use Rattle.machine.proofs.Viewing.{length-viewed, size-view}
+use Rattle.machine.specs.declared.formed.Formed.{Formed}
+use Rattle.machine.proofs.Viewing.{length-viewed}
 use Rattle.machine.proofs.Packing.{pack-view}
+use Rattle.machine.proofs.Testing.{padded_of, formed_of, kept, sizes}
 use Rattle.runs.specs.declared.parts.Parts.{Parts}
 use Rattle.runs.specs.Parts.{plain, parts_of, joined}
 use Rattle.runs.specs.Slots.{rows_of, table_of, state_of, frame_length, Runnable, RanSlots}
 use Rattle.runs.specs.Answers.{Open, RunFormed}
-use Rattle.runs.proofs.Parting.{padded_of, formed_of, few_tasks}
 
 -- the rows of a table's own columns
 rows_back : (rows : List Rules.Row) → rows_of (map (λ r. r.c) rows) (map (λ r. r.t) rows) ≡ rows
@@ -68,57 +68,47 @@ pub record Columns (n : ℕ) (p : Parts) (st : States.State) : Type 0 where
   pub dropped : Column n p.dropped st.dropped
 
 -- the arrays of a state that was taken apart have a place for each task: `run_formed`'s own attribute names these
-module _ {s : State} {count : ℕ} {out : List ℕ} {p : Parts} (o : Open s count out) (e : p ≡ parts_of (view s)) where
-  whole : Kept (view s)
-  whole = formed-kept (view s) (formed_of s o.good)
+module _ (f : Formed) {p : Parts} (e : p ≡ parts_of (view f.state)) where
+  long_array : {a : List ℕ} (l : List ℕ) → length l ≡ RuleTables.size (view f.state).table → a ≡ plain l → tasks f.state ≤ length a
+  long_array l size q = rw q (omega (arith, plain_size l size (kept f).taken.tasks_high, f.few))
 
-  long_array : {a : List ℕ} (l : List ℕ) → length l ≡ RuleTables.size (view s).table → a ≡ plain l → tasks s ≤ length a
-  long_array l size q = rw q (omega (arith, plain_size l size whole.taken.tasks_high, few_tasks s o.good))
-
-  pub long_c : tasks s ≤ length p.c
+  pub long_c : tasks f.state ≤ length p.c
   unfolding parts_of
-  long_c = long_array _ (length-map (view s).table.rows _) (ap (λ (x : Parts). x.c) e)
+  long_c = long_array _ (length-map (view f.state).table.rows _) (ap (λ (x : Parts). x.c) e)
 
-  pub long_t : tasks s ≤ length p.t
+  pub long_t : tasks f.state ≤ length p.t
   unfolding parts_of
-  long_t = long_array _ (length-map (view s).table.rows _) (ap (λ (x : Parts). x.t) e)
+  long_t = long_array _ (length-map (view f.state).table.rows _) (ap (λ (x : Parts). x.t) e)
 
-  pub long_ranks : tasks s ≤ length p.ranks
+  pub long_ranks : tasks f.state ≤ length p.ranks
   unfolding parts_of
-  long_ranks = long_array _ (ap length whole.ranked ∙ order-length (view s).table) (ap (λ (x : Parts). x.ranks) e)
+  long_ranks = long_array _ (ap length (kept f).ranked ∙ order-length (view f.state).table) (ap (λ (x : Parts). x.ranks) e)
 
-  pub long_phase : tasks s ≤ length p.phase
+  pub long_phase : tasks f.state ≤ length p.phase
   unfolding parts_of phases_in
-  long_phase = long_array _ (length-each (RuleTables.size (view s).table) _) (ap (λ (x : Parts). x.phase) e)
+  long_phase = long_array _ (length-each (RuleTables.size (view f.state).table) _) (ap (λ (x : Parts). x.phase) e)
 
-  pub long_left : tasks s ≤ length p.left
+  pub long_left : tasks f.state ≤ length p.left
   unfolding parts_of
-  long_left = long_array _ whole.left_length (ap (λ (x : Parts). x.left) e)
+  long_left = long_array _ (kept f).left_length (ap (λ (x : Parts). x.left) e)
 
-  pub long_last : tasks s ≤ length p.last
+  pub long_last : tasks f.state ≤ length p.last
   unfolding parts_of
-  long_last = long_array _ whole.last_length (ap (λ (x : Parts). x.last) e)
+  long_last = long_array _ (kept f).last_length (ap (λ (x : Parts). x.last) e)
 
-  pub long_done : tasks s ≤ length p.done
+  pub long_done : tasks f.state ≤ length p.done
   unfolding parts_of
-  long_done = long_array _ whole.done_length (ap (λ (x : Parts). x.done) e)
+  long_done = long_array _ (kept f).done_length (ap (λ (x : Parts). x.done) e)
 
-  pub long_dropped : tasks s ≤ length p.dropped
+  pub long_dropped : tasks f.state ≤ length p.dropped
   unfolding parts_of
-  long_dropped = long_array _ whole.dropped_length (ap (λ (x : Parts). x.dropped) e)
+  long_dropped = long_array _ (kept f).dropped_length (ap (λ (x : Parts). x.dropped) e)
 
 pub ruleset long_arrays = (length-take, long_c, long_t, long_ranks, long_phase, long_left, long_last, long_done, long_dropped)
 
-module _ {s : State} {count : ℕ} {out : List ℕ} (o : Open s count out) (full : Full s) where
-  few : tasks s ≤ tasks_max
-  few = few_tasks s o.good
-
-  kept : Kept (view s)
-  kept = formed-kept (view s) (formed_of s o.good)
-
-  size_is : RuleTables.size (view s).table ≡ tasks s
-  unfolding view
-  size_is = size-view s.table full.rows few
+module _ (f : Formed) {count : ℕ} {out : List ℕ} (o : Open f.state count out) where
+  abbrev s : State
+  s = f.state
 
   cores_is : (view s).table.m ≡ s.table.m.0
   unfolding view Tables.view
@@ -133,19 +123,19 @@ module _ {s : State} {count : ℕ} {out : List ℕ} (o : Open s count out) (full
   end = after count (view s)
 
   kept_end : Kept end
-  kept_end = after_kept count kept
+  kept_end = after_kept count (kept f)
 
   size_end : RuleTables.size end.table ≡ tasks s
-  size_end = ap RuleTables.size (after_table count (view s)) ∙ size_is
+  size_end = ap RuleTables.size (after_table count (view s)) ∙ sizes f
 
   -- the struct has its table and its order
   table_end : s.table ≡ Tables.pack end.table
   unfolding pack
-  table_end = ap (λ (x : State). x.table) (sym (pack-view s (padded_of s o.good) full)) ∙ ap Tables.pack (sym (after_table count (view s)))
+  table_end = ap (λ (x : State). x.table) (sym (pack-view s (padded_of f) f.full)) ∙ ap Tables.pack (sym (after_table count (view s)))
 
   ranks_end : s.ranks ≡ packed task_number end.ranks
   unfolding pack
-  ranks_end = ap (λ (x : State). x.ranks) (sym (pack-view s (padded_of s o.good) full)) ∙ ap (packed task_number) (sym (after-ranks count (view s)))
+  ranks_end = ap (λ (x : State). x.ranks) (sym (pack-view s (padded_of f) f.full)) ∙ ap (packed task_number) (sym (after-ranks count (view s)))
 
   -- the front of an array whose front was a list of the state
   front : {l : List ℕ} (rest l' : List ℕ) → l ≡ l' → length l' ≡ RuleTables.size end.table → take (tasks s) (l ++ rest) ≡ l'
@@ -156,14 +146,14 @@ module _ {s : State} {count : ℕ} {out : List ℕ} (o : Open s count out) (full
     unfolding parts_of phases_in view
     columns =
         record {
-          c = column _ few (length-map (view s).table.rows (λ r. r.c) ∙ size_is) (ap (λ (x : Parts). x.c) e);
-          t = column _ few (length-map (view s).table.rows (λ r. r.t) ∙ size_is) (ap (λ (x : Parts). x.t) e);
-          ranks = column _ few (length-viewed (λ x. x.0) (tasks s) s.ranks (omega (arith, few, full.ranks))) (ap (λ (x : Parts). x.ranks) e);
-          phase = column _ few (length-each (RuleTables.size (view s).table) _ ∙ size_is) (ap (λ (x : Parts). x.phase) e);
-          left = column _ few (kept.left_length ∙ size_is) (ap (λ (x : Parts). x.left) e);
-          last = column _ few (kept.last_length ∙ size_is) (ap (λ (x : Parts). x.last) e);
-          done = column _ few (kept.done_length ∙ size_is) (ap (λ (x : Parts). x.done) e);
-          dropped = column _ few (kept.dropped_length ∙ size_is) (ap (λ (x : Parts). x.dropped) e);
+          c = column _ f.few (length-map (view s).table.rows (λ r. r.c) ∙ sizes f) (ap (λ (x : Parts). x.c) e);
+          t = column _ f.few (length-map (view s).table.rows (λ r. r.t) ∙ sizes f) (ap (λ (x : Parts). x.t) e);
+          ranks = column _ f.few (length-viewed (λ x. x.0) (tasks s) s.ranks (omega (arith, f.few, f.full.ranks))) (ap (λ (x : Parts). x.ranks) e);
+          phase = column _ f.few (length-each (RuleTables.size (view s).table) _ ∙ sizes f) (ap (λ (x : Parts). x.phase) e);
+          left = column _ f.few ((kept f).left_length ∙ sizes f) (ap (λ (x : Parts). x.left) e);
+          last = column _ f.few ((kept f).last_length ∙ sizes f) (ap (λ (x : Parts). x.last) e);
+          done = column _ f.few ((kept f).done_length ∙ sizes f) (ap (λ (x : Parts). x.done) e);
+          dropped = column _ f.few ((kept f).dropped_length ∙ sizes f) (ap (λ (x : Parts). x.dropped) e);
         }
 
     -- the arrays' fronts say the state
@@ -196,7 +186,7 @@ module _ {s : State} {count : ℕ} {out : List ℕ} (o : Open s count out) (full
     pub runnable : Runnable begun count (take (tasks s) p.c) (take (tasks s) p.t) (take (tasks s) p.phase) out
     runnable =
         record {
-          formed = subst (λ (x : States.State). T (well_formed x)) (sym begun_is) (formed_of s o.good);
+          formed = subst (λ (x : States.State). T (well_formed x)) (sym begun_is) (formed_of f);
           in_time = o.in_time;
           columns = sym columns.t.count ∙ columns.c.count;
           phases = columns.phase.front ∙ ap (λ (x : RuleTables.Table). phases_in x (view s).clock) (sym table-said) ∙ rw clock_is;

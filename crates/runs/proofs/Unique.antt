@@ -21,7 +21,7 @@ pub frame_length_once : One frame-length.Post (λ κs r s. r)
 frame_length_once κs a x y s t p q = both p q
 
 -- the lists, the totals and the buffer
-pub run_slots_once : One {S = List ℕ × List ℕ × List ℕ × List ℕ × List ℕ × ℕ × ℕ × List ℕ} run-slots.Post (λ κs r s. (s.1.1.1.1.1.1.1.0.now, s.1.1.1.1.1.1.1.1.0.now, s.1.1.1.1.1.1.1.1.1.0.now, s.1.1.1.1.1.1.1.1.1.1.0.now, s.1.1.1.1.1.1.1.1.1.1.1.0.now, r.moves, r.misses, s.1.1.1.1.1.1.1.1.1.1.1.1.0.now))
+pub run_slots_once : One {S = List ℕ × List ℕ × List ℕ × List ℕ × List ℕ × ℕ × ℕ × List ℕ} run-slots.Post (λ κs r s. (s.1.1.1.1.1.0.now, s.1.1.1.1.1.1.0.now, s.1.1.1.1.1.1.1.0.now, s.1.1.1.1.1.1.1.1.0.now, s.1.1.1.1.1.1.1.1.1.0.now, r.moves, r.misses, s.1.1.1.1.1.1.1.1.1.1.0.now))
 run_slots_once κs a x y s t p q =
     let state = both p.state q.state in
     λ j. (both p.phases q.phases j, (state j).left, (state j).last, (state j).done, (state j).dropped, (state j).moves, (state j).misses, both p.lines q.lines j)

@@ -1,18 +1,17 @@
 -- The answer to a run, as the structs give it.
-use Rattle.std.specs.Prelude.{ℕ, ◌+◌, ◌*◌, ◌≤◌, ◌≡◌, true, List, ◌++◌, length, drop, Result, Ok, Err}
+use Rattle.std.specs.Prelude.{ℕ, ◌+◌, ◌*◌, ◌≤◌, ◌≡◌, List, ◌++◌, length, drop, Result, Ok, Err}
 use Rattle.rules.specs.Limits.{clock_max}
 use Rattle.rules.specs.Refusals.{Answer, taken, refused}
 use Rattle.rules.specs.Runs.{after, slot_lines}
 use Rattle.rules.specs.Answers.{Ran, run_slots}
 use Rattle.rules.specs.declared.refusal.Refusal.{Refusal}
-use Rattle.machine.specs.Views.{view, pack, formed}
+use Rattle.machine.specs.Views.{view, pack}
 use Rattle.machine.specs.Answers.{asked}
 use Rattle.machine.specs.declared.state.State.{State}
 use Rattle.runs.specs.Slots.{frame_length}
 
 -- what a run asks that is not refused
 pub record Open (s : State) (count : ℕ) (out : List ℕ) : Type 0 where
-  pub good : formed s ≡ true
   pub in_time : s.clock.0 + count ≤ clock_max
   pub room : count * frame_length s.table.m.0 ≤ length out
 

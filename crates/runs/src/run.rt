@@ -7,7 +7,8 @@ ghost use Rattle.runs.specs.Answers.{Open, RunFormed, run_end, run_answer};
 
 use crate::parts::{Parts, apart, together};
 use crate::slots::{Totals, frame_length, run_slots};
-use machine::form::is_formed;
+use engine::columns::Columns;
+use machine::formed::Formed;
 use machine::state::State;
 use rules::kinds::{Kind, Slot};
 use rules::refusal::Refusal;
@@ -31,10 +32,11 @@ pub fn length_of(count: u32, m: u32) -> usize
 
 // The run itself, of a state that passed the tests, with its frames from the front of `out` on.
 #[tactic(auto, using(crate::proofs::Running::long_arrays))]
-fn run_formed(s: State, count: u32, out: &mut [u8]) -> State
-    requires { Open s count out.old }
-    ensures { RunFormed s count out.old result out.new }
+fn run_formed(formed: &Formed, count: u32, out: &mut [u8]) -> State
+    requires { Open formed.now.state count out.old }
+    ensures { RunFormed formed.now.state count out.old result out.new }
 {
+    let s = formed.state;
     let table = s.table;
     let n = table.n.0 as usize;
     let m = table.m.0 as usize;
@@ -48,19 +50,23 @@ fn run_formed(s: State, count: u32, out: &mut [u8]) -> State
         mut last,
         mut done,
         mut dropped,
-    } = apart(s);
+    } = apart(formed);
     let before = Totals {
         moves: s.moves,
         misses: s.misses,
+    };
+    // No method of `Parts` lends these: it would borrow the lists that change too, and a copy of those costs time in each run.
+    let columns = Columns {
+        c: &c[..n],
+        t: &t[..n],
+        ranks: &ranks[..n],
     };
     let totals = run_slots(
         clock,
         count,
         before,
         m,
-        &c[..n],
-        &t[..n],
-        &ranks[..n],
+        columns,
         &mut phase[..n],
         &mut left[..n],
         &mut last[..n],
@@ -76,14 +82,12 @@ fn run_formed(s: State, count: u32, out: &mut [u8]) -> State
 pub fn run(s: State, count: u32, out: &mut [u8], at: usize) -> Result<State, Refusal>
     ensures { run_end result out.new ≡ run_answer s count out.old at }
 {
-    if !is_formed(s) {
-        return Err(Refusal::BadState);
-    }
+    let formed = Formed::try_from(s)?;
     if is_past(s.clock.0, count) {
         return Err(Refusal::PastClock);
     }
     room(out.len(), at, length_of(count, s.table.m.0))?;
-    Ok(run_formed(s, count, &mut out[at..]))
+    Ok(run_formed(&formed, count, &mut out[at..]))
 }
 
 // A run of one slot.

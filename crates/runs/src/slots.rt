@@ -3,6 +3,7 @@ ghost use Rattle.std.specs.Prelude.{◌≡◌, ◌+◌, ◌≤◌};
 ghost use Rattle.rules.specs.Limits.{cores_max};
 ghost use Rattle.runs.specs.Slots.{state_of, frame_length, Runnable, RanSlots};
 
+use engine::columns::Columns;
 use engine::release::release;
 use engine::slot::slot;
 use frames::names::Names;
@@ -23,17 +24,14 @@ pub fn frame_length(m: usize) -> usize
     2 * m + 15
 }
 
-// A slice that speaks of tasks has one entry a task, in table order: `c` and `t` each task's C and T, `phase` the slots since its
-// last release. `ranks` has the tasks in priority order. There are m cores. The frames go to the front of `out`. The totals at the
-// end are returned.
+// A slice that speaks of tasks has one entry a task, in table order: `phase` has the slots since its last release. There are m cores.
+// The lists that change are lent one by one, as to `slot`. The frames go to the front of `out`. The totals at the end are returned.
 pub fn run_slots(
     clock: u32,
     count: u32,
     totals: Totals,
     m: usize,
-    c: &[u32],
-    t: &[u32],
-    ranks: &[u8],
+    columns: Columns<'_>,
     phase: &mut [u32],
     left: &mut [u32],
     last: &mut [u8],
@@ -41,8 +39,8 @@ pub fn run_slots(
     dropped: &mut [u32],
     out: &mut [u8],
 ) -> Totals
-    requires { Runnable (state_of m clock c.now t.now ranks.now left.old last.old done.old dropped.old totals.moves totals.misses) count c.now t.now phase.old out.old }
-    ensures { RanSlots (state_of m clock c.now t.now ranks.now left.old last.old done.old dropped.old totals.moves totals.misses) count out.old (state_of m (clock + count) c.now t.now ranks.now left.new last.new done.new dropped.new result.moves result.misses) phase.new out.new }
+    requires { Runnable (state_of m clock columns.c.now columns.t.now columns.ranks.now left.old last.old done.old dropped.old totals.moves totals.misses) count columns.c.now columns.t.now phase.old out.old }
+    ensures { RanSlots (state_of m clock columns.entry.c.now columns.entry.t.now columns.entry.ranks.now left.old last.old done.old dropped.old totals.moves totals.misses) count out.old (state_of m (clock + count) columns.entry.c.now columns.entry.t.now columns.entry.ranks.now left.new last.new done.new dropped.new result.moves result.misses) phase.new out.new }
 {
     let width = frame_length(m);
     let n = left.len();
@@ -51,20 +49,10 @@ pub fn run_slots(
     let mut moves = totals.moves;
     let mut misses = totals.misses;
     let mut place = 0;
-    release(left, phase, c);
+    release(left, phase, columns.c);
     for k in 0..count {
         let mut cores = [0u8; 32];
-        let shown = slot(
-            c,
-            t,
-            ranks,
-            phase,
-            left,
-            last,
-            done,
-            dropped,
-            &mut cores[..m],
-        );
+        let shown = slot(columns, phase, left, last, done, dropped, &mut cores[..m]);
         write_slot(
             &mut out[place..],
             clock + k,

@@ -28,6 +28,7 @@ fn read_full<R: Read>(reader: &mut R, buf: &mut [u8]) -> io::Result<usize>
     ensures end { IfOk result (λ n. n < length buf.new → IsAtEnd (R.remaining reader.new)) }
 {
     let mut done = 0;
+    // No `for` fits: how far a read gets is the reader's.
     while done < buf.len() {
         let n = reader.read(&mut buf[done..])?;
         if n == 0 {

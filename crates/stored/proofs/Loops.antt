@@ -1,4 +1,4 @@
--- Bytes read by the library's method, and written from the last one back.
+-- Bytes read by the library's method.
 use Prim.Native.Nat.{ℕ, zero, suc, ◌+◌, ◌-◌, ◌*◌, ◌≤◌, ◌<◌}
 use mathlib.Core.Path.{◌≡◌, refl, ap, ◌∙◌}
 use mathlib.Core.List.{List, [], ◌++◌, append-nil}
@@ -8,13 +8,10 @@ use lib.ListN.{length, get_or, take, drop, replicate, length-append, length-repl
 use lib.Seq.{take-suc, take_all, length-take-le}
 use Rattle.std.proofs.lemmas.List.{take-replicate, drop_all}
 use Rattle.std.specs.Int.{w64, from_be_bytes}
-use Rattle.laws.proofs.Backwards.{InPlaces}
-use Rattle.stored.specs.Layout.{bytes_of, value_of}
+use Rattle.stored.specs.Layout.{value_of}
 use Rattle.stored.specs.Places.{number_at, Within, Read}
 use Rattle.stored.proofs.Numbers.{Bytes, value_of_snoc, value-fits}
 use Rattle.stored.proofs.Fields.{bytes_drop}
-
--- ---- a number read
 
 -- one more byte
 value_more : (bs : List ℕ) (j : ℕ) → j < length bs → value_of (take (suc j) bs) ≡ value_of (take j bs) * 256 + get_or bs j 0
@@ -76,9 +73,3 @@ copied_reads {s} {from} {w} {part} {r} there small copied made =
       value = value;
       fits = rw value (value-fits (drop from s) (bytes_drop from s small) w (omega (arith, length-drop from s, there)));
     }
-
--- ---- a number written from the back
-
-pub byte_places : InPlaces bytes_of 256 (λ b. b)
-unfolding bytes_of
-byte_places = record { none = λ v. refl; more = λ w v. refl }

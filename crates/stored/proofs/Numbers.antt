@@ -1,14 +1,16 @@
 -- Numbers as big-endian bytes: what is written is read back, and only what is written is read.
 use Prim.Native.Nat.{ℕ, zero, suc, ◌+◌, ◌*◌, ◌/◌, ◌%◌, ◌^◌, ◌≤◌, ◌<◌}
-use mathlib.Core.Path.{◌≡◌, refl, ◌∙◌}
+use mathlib.Core.Path.{◌≡◌, refl, ap, ◌∙◌}
 use mathlib.Core.List.{List, [], ◌∷◌, ◌++◌}
 use native.Mathlib.Nat.{pow-suc, div-add-mod', div-lt_iff_lt-mul}
 use native.Mathlib.Omega.{arith}
 use lib.Arith.{digits_lt, digits_div, digits_mod}
 use lib.Dec.{lit<}
-use lib.ListN.{length, get_or, take, length-append}
+use lib.ListN.{length, get_or, take}
 use lib.Seq.{take-suc}
 use Rattle.laws.specs.Lists.{foldl}
+use Rattle.laws.specs.Places.{places}
+use Rattle.laws.proofs.Backwards.{length-places}
 use Rattle.stored.specs.Layout.{bytes_of, value_of}
 
 -- every entry of a list is a byte
@@ -25,11 +27,15 @@ pub value_of_snoc : (bs : List ℕ) (b : ℕ) → value_of (bs ++ (b ∷ [])) �
 unfolding value_of
 value_of_snoc bs b = after_snoc 0 bs b
 
+-- a number in bytes is one in places
+pub bytes_places : (w v : ℕ) → bytes_of w v ≡ places 256 (λ d. d) w v
+unfolding bytes_of places
+bytes_places zero v = refl
+bytes_places (suc w) v = ap (λ (bs : List ℕ). bs ++ (v % 256 ∷ [])) (bytes_places w (v / 256))
+
 -- w bytes
 pub length-bytes_of : (w v : ℕ) → length (bytes_of w v) ≡ w
-unfolding bytes_of
-length-bytes_of zero v = refl
-length-bytes_of (suc w) v = length-append (bytes_of w (v / 256)) (v % 256 ∷ []) ∙ omega (arith, length-bytes_of w (v / 256))
+length-bytes_of w v = rw bytes_places (length-places 256 (λ d. d) w v)
 
 -- a number that fits its bytes is read back
 pub value_written : (w v : ℕ) → v < 256 ^ w → value_of (bytes_of w v) ≡ v

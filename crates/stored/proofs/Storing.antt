@@ -2,7 +2,7 @@
 use Rattle.std.proofs.Common.{Ok, Err}
 use Prim.Native.Nat.{ℕ, ◌+◌, ◌-◌, ◌*◌, ◌≤◌, ◌<◌}
 use mathlib.Core.Path.{◌≡◌, refl, sym, ap, ◌∙◌}
-use mathlib.Core.Bool.{true, false}
+use mathlib.Core.Bool.{false}
 use mathlib.Core.List.{List, [], ◌∷◌, ◌++◌, map, append_assoc, append-nil}
 use native.Mathlib.Omega.{arith}
 use borrow.Rule.Slice.PartMut.{mid_of, put_mid}
@@ -10,8 +10,6 @@ use lib.ListN.{length, get_or, drop, length-append}
 use Rattle.laws.specs.Lists.{sum, join, numbers}
 use Rattle.laws.proofs.Filling.{numbers_more}
 use Rattle.laws.proofs.Joins.{join_last}
-use Rattle.rules.specs.Limits.{tasks_max}
-use Rattle.rules.specs.Tables.{size}
 use Rattle.rules.specs.Answers.{lay}
 use Rattle.rules.specs.Results.{room_reply}
 use Rattle.rules.specs.declared.refusal.Refusal.{Refusal}
@@ -20,12 +18,12 @@ use Rattle.tables.specs.Views as Tables
 use Rattle.tables.specs.Writes.{made, wrote_text}
 use Rattle.tables.proofs.Written.{text_short, text-written}
 use Rattle.reading_laws.proofs.Laying.{Laid, nothing, put, first, more, ends_at, laid-front, Pieces, next_piece}
-use Rattle.machine.specs.Full.{Full}
 use Rattle.machine.specs.Views.{tasks, task_number, core_number, units, view, formed}
 use Rattle.machine.specs.declared.state.State.{State}
-use Rattle.machine.proofs.Viewing.{at-viewed, size-view, row_of-view}
-use Rattle.machine.proofs.Packing.{padded-few}
-use Rattle.machine.proofs.Asking.{formed-says, text_ill, text_well}
+use Rattle.machine.specs.declared.formed.Formed.{Formed}
+use Rattle.machine.proofs.Viewing.{at-viewed, row_of-view}
+use Rattle.machine.proofs.Asking.{text_ill, text_well}
+use Rattle.machine.proofs.Testing.{sizes}
 use Rattle.stored.specs.Layout.{bytes_of, written, fixed_widths, task_widths, length_of, fixed_of, task_of, record_of, store}
 use Rattle.stored.specs.Answers.{store_state, stored_state}
 use Rattle.stored.proofs.Numbers.{length-bytes_of}
@@ -79,16 +77,18 @@ entries s i =
     ∷ (get_or s.dropped i (units 0)).0
     ∷ []
 
-pub task-entries : (s : State) → Full s → tasks s ≤ tasks_max → (i : ℕ) → i < tasks s → task_of (view s) (i + 1) ≡ entries s i
+pub task-entries : (f : Formed) (i : ℕ) → i < tasks f.state → task_of (view f.state) (i + 1) ≡ entries f.state i
 unfolding view
-task-entries s full few i more =
+task-entries f i more =
+    let s = f.state in
+    let few = f.few in
     rw (
-      row_of-view s.table full.rows few i more,
-      at-viewed (λ x. x.0) (tasks s) s.ranks (omega (arith, full.ranks)) (task_number 0) i refl more,
-      at-viewed (λ x. x.0) (tasks s) s.last (omega (arith, full.last)) (core_number 0) i refl more,
-      at-viewed (λ x. x.0) (tasks s) s.left (omega (arith, full.left)) (units 0) i refl more,
-      at-viewed (λ x. x.0) (tasks s) s.done (omega (arith, full.done)) (units 0) i refl more,
-      at-viewed (λ x. x.0) (tasks s) s.dropped (omega (arith, full.dropped)) (units 0) i refl more,
+      row_of-view s.table f.full.rows few i more,
+      at-viewed (λ x. x.0) (tasks s) s.ranks (omega (arith, f.full.ranks)) (task_number 0) i refl more,
+      at-viewed (λ x. x.0) (tasks s) s.last (omega (arith, f.full.last)) (core_number 0) i refl more,
+      at-viewed (λ x. x.0) (tasks s) s.left (omega (arith, f.full.left)) (units 0) i refl more,
+      at-viewed (λ x. x.0) (tasks s) s.done (omega (arith, f.full.done)) (units 0) i refl more,
+      at-viewed (λ x. x.0) (tasks s) s.dropped (omega (arith, f.full.dropped)) (units 0) i refl more,
     )
 
 -- ---- the records, one right after the other
@@ -111,57 +111,50 @@ module _ (s : State) where
 
 -- ---- the whole state
 
-module _ (s : State) (full : Full s) (few : tasks s ≤ tasks_max) where
-  sizes : size (view s).table ≡ tasks s
-  unfolding view
-  sizes = size-view s.table full.rows few
+module _ (f : Formed) where
+  length_stored : length (store (view f.state)) ≡ length_of (tasks f.state)
+  length_stored = length-store (view f.state) ∙ ap length_of (sizes f)
 
-  length_stored : length (store (view s)) ≡ length_of (tasks s)
-  length_stored = length-store (view s) ∙ ap length_of sizes
-
-  pub fixed_numbers : fixed_of (view s) ≡ s.table.m.0 ∷ s.table.n.0 ∷ s.clock.0 ∷ s.moves ∷ s.misses ∷ []
+  pub fixed_numbers : fixed_of (view f.state) ≡ f.state.table.m.0 ∷ f.state.table.n.0 ∷ f.state.clock.0 ∷ f.state.moves ∷ f.state.misses ∷ []
   unfolding view Tables.view
-  fixed_numbers = ap (λ (n : ℕ). s.table.m.0 ∷ n ∷ s.clock.0 ∷ s.moves ∷ s.misses ∷ []) sizes
+  fixed_numbers = ap (λ (n : ℕ). f.state.table.m.0 ∷ n ∷ f.state.clock.0 ∷ f.state.moves ∷ f.state.misses ∷ []) (sizes f)
 
   -- the fixed part, and the records right after it
-  pub state-written : (out out₁ tail : List ℕ) → length_of (tasks s) ≤ length out
-      → out₁ ≡ written fixed_widths (fixed_of (view s)) ++ drop 22 out
-      → tail ≡ first_records s (tasks s) ++ drop (34 * tasks s) (mid_of 22 (length out₁ - 22) out₁)
-      → put_mid 22 (length out₁ - 22) out₁ tail ≡ store (view s) ++ drop (length_of (tasks s)) out
+  pub state-written : (out out₁ tail : List ℕ) → length_of (tasks f.state) ≤ length out
+      → out₁ ≡ written fixed_widths (fixed_of (view f.state)) ++ drop 22 out
+      → tail ≡ first_records f.state (tasks f.state) ++ drop (34 * tasks f.state) (mid_of 22 (length out₁ - 22) out₁)
+      → put_mid 22 (length out₁ - 22) out₁ tail ≡ store (view f.state) ++ drop (length_of (tasks f.state)) out
   unfolding store
   state-written out out₁ tail room fixed-is rest-is =
-      let n : ℕ = tasks s in
-      let fixed : List ℕ = written fixed_widths (fixed_of (view s)) in
-      let rest : List ℕ = first_records s n in
-      let records : length rest ≡ 34 * n = length_records (record_of (view s)) 34 (λ i. length-written task_widths (task_of (view s) i) refl) 1 n in
-      let one = first out fixed 22 (length-written fixed_widths (fixed_of (view s)) refl) fixed-is in
-      let whole : fixed ++ rest ≡ store (view s) = ap (λ (k : ℕ). fixed ++ first_records s k) (sym sizes) in
+      let n : ℕ = tasks f.state in
+      let fixed : List ℕ = written fixed_widths (fixed_of (view f.state)) in
+      let rest : List ℕ = first_records f.state n in
+      let records : length rest ≡ 34 * n = length_records (record_of (view f.state)) 34 (λ i. length-written task_widths (task_of (view f.state) i) refl) 1 n in
+      let one = first out fixed 22 (length-written fixed_widths (fixed_of (view f.state)) refl) fixed-is in
+      let whole : fixed ++ rest ≡ store (view f.state) = ap (λ (k : ℕ). fixed ++ first_records f.state k) (sym (sizes f)) in
       laid-front out (more out one rest (34 * n) records (omega arith) rest-is) (length_of n) (omega arith)
       ∙ ap (λ (l : List ℕ). l ++ drop (length_of n) out) whole
 
 -- ---- the answer
 
-module _ (s : State) (out : List ℕ) (place : ℕ) where
-  -- the state is not well formed
-  pub store_ill : formed s ≡ false → made (Err BadState) out ≡ stored_state s out place
+-- the state is not well formed
+pub store_ill : (s : State) (out : List ℕ) (place : ℕ) → formed s ≡ false → made (Err BadState) out ≡ stored_state s out place
+unfolding stored_state store_state
+store_ill s out place e = text_ill s store out place (length (store (view s))) e
+
+module _ (f : Formed) {s : State} (same : f.state ≡ s) (out : List ℕ) (place : ℕ) where
+  -- its bytes are written, where there is room
+  bytes_for : wrote_text out place (store (view f.state)) ≡ stored_state s out place
   unfolding stored_state store_state
-  store_ill e = text_ill s store out place (length (store (view s))) e
+  bytes_for = rw (← same) (text_well f.state store out place (length (store (view f.state))) refl f.good)
 
-  module _ (full : Full s) (ok : formed s ≡ true) where
-    -- its bytes are written, where there is room
-    bytes_for : wrote_text out place (store (view s)) ≡ stored_state s out place
-    unfolding stored_state store_state
-    bytes_for = text_well s store out place (length (store (view s))) refl ok
+  -- they have no room
+  pub store_short : {r : Refusal} → room_reply (length out) place (length_of (tasks s)) ≡ Err r → made (Err r) out ≡ stored_state s out place
+  store_short e = text_short out place (store (view f.state)) (length_of (tasks s)) (rw (← same) (length_stored f)) e ∙ bytes_for
 
-    long : length (store (view s)) ≡ length_of (tasks s)
-    long = length_stored s full (padded-few s (formed-says s ok).0)
-
-    -- they have no room
-    pub store_short : {r : Refusal} → room_reply (length out) place (length_of (tasks s)) ≡ Err r → made (Err r) out ≡ stored_state s out place
-    store_short e = text_short out place (store (view s)) (length_of (tasks s)) long e ∙ bytes_for
-
-    -- they have, and were written through the lent tail
-    pub store-written : {u : Unit {0}} → room_reply (length out) place (length_of (tasks s)) ≡ Ok u → (tail : List ℕ)
-        → tail ≡ store (view s) ++ drop (length_of (tasks s)) (mid_of place (length out - place) out)
-        → made (Ok (length_of (tasks s))) (put_mid place (length out - place) out tail) ≡ stored_state s out place
-    store-written room tail e = text-written out place (store (view s)) (length_of (tasks s)) long room tail e ∙ bytes_for
+  -- they have, and were written through the lent tail
+  pub store-written : {u : Unit {0}} → room_reply (length out) place (length_of (tasks s)) ≡ Ok u → (tail : List ℕ)
+      → tail ≡ store (view f.state) ++ drop (length_of (tasks f.state)) (mid_of place (length out - place) out)
+      → made (Ok (length_of (tasks s))) (put_mid place (length out - place) out tail) ≡ stored_state s out place
+  store-written room tail e =
+      text-written out place (store (view f.state)) (length_of (tasks s)) (rw (← same) (length_stored f)) room tail (rw (← same) e) ∙ bytes_for

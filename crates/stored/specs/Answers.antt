@@ -1,15 +1,13 @@
 -- What reading and writing a state answers, and leaves in the buffer.
-use Rattle.std.specs.Prelude.{ℕ, ◌≤◌, List, [], ◌∷◌, length, Result}
-use Rattle.rules.specs.Limits.{tasks_max}
+use Rattle.std.specs.Prelude.{ℕ, List, [], ◌∷◌, length, Result}
 use Rattle.rules.specs.Refusals.{Answer, settle}
 use Rattle.rules.specs.Results.{plain_reply}
 use Rattle.rules.specs.declared.refusal.Refusal.{Refusal}
 use Rattle.rules.specs.States as States
 use Rattle.rules.specs.Answers.{lay, room_test, state_test}
 use Rattle.tables.specs.Writes.{Wrote, wrote}
-use Rattle.machine.specs.Views.{tasks, view, pack}
+use Rattle.machine.specs.Views.{view, pack}
 use Rattle.machine.specs.Answers.{asked}
-use Rattle.machine.specs.Full.{Full}
 use Rattle.machine.specs.declared.state.State.{State}
 use Rattle.stored.specs.Layout.{store}
 
@@ -24,9 +22,3 @@ store_state st out place = settle (state_test st ∷ room_test out place (length
 -- how many bytes were written with the buffer that has them, or why none were with the buffer as it was
 unfoldable pub stored_state : State → List ℕ → ℕ → Wrote
 stored_state s out place = wrote (length (store (view s))) out (asked s (λ st. store_state st out place))
-
--- a struct has places for its tasks, and a buffer room for so many bytes
-pub record Room (s : State) (bytes : ℕ) (out : List ℕ) : Type 0 where
-  pub full : Full s
-  pub few : tasks s ≤ tasks_max
-  pub room : bytes ≤ length out

@@ -4,6 +4,8 @@ ghost use Rattle.rules.specs.Answers.{lay};
 ghost use Rattle.stored.specs.Layout.{bytes_of};
 ghost use Rattle.stored.specs.Places.{Within, Read};
 
+use digits::places::write_places;
+
 // The number that the `width` bytes of s from a place on stand for.
 pub fn read_bytes(s: &[u8], from: usize, width: usize) -> u64
     requires { Within s.now from width }
@@ -20,10 +22,5 @@ pub fn write_bytes(out: &mut [u8], at: usize, width: usize, v: u64)
     ensures { out.new ≡ lay out.old at (bytes_of width v) }
 {
     // The contract is for any width, and the library's `to_be_bytes` gives eight bytes.
-    let tail = &mut out[at..];
-    let mut rest = v;
-    for i in (0..width).rev() {
-        tail[i] = (rest % 256) as u8;
-        rest /= 256;
-    }
+    write_places::<256, _>(out, at, width, v, |d| d);
 }

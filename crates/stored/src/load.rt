@@ -5,7 +5,7 @@ ghost use Rattle.stored.specs.Answers.{state_answer};
 
 use crate::decode::Stored;
 use crate::{FIXED, RECORD};
-use machine::form::is_formed;
+use machine::formed::Formed;
 use machine::state::State;
 use rules::kinds::{Kind, Tasks};
 use rules::refusal::Refusal;
@@ -25,9 +25,5 @@ pub fn load(bytes: &[u8]) -> Result<State, Refusal>
         return Err(Refusal::BadState);
     }
     let stored = Stored { bytes, n };
-    let state = stored.state();
-    if !is_formed(state) {
-        return Err(Refusal::BadState);
-    }
-    Ok(state)
+    Ok(Formed::try_from(stored.state())?.state)
 }

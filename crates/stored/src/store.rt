@@ -1,23 +1,24 @@
 // A state written as bytes, field by field and record by record.
-ghost use Rattle.std.specs.Prelude.{◌≡◌, ◌++◌, map, ◌+◌, ◌*◌, ◌<◌, drop};
+ghost use Rattle.std.specs.Prelude.{◌≡◌, ◌++◌, map, ◌+◌, ◌*◌, ◌≤◌, ◌<◌, length, drop};
 ghost use Rattle.laws.specs.Lists.{join, numbers};
 ghost use Rattle.tables.specs.Writes.{made};
 ghost use Rattle.machine.specs.Views.{tasks, view};
 ghost use Rattle.stored.specs.Layout.{written, fixed_widths, fixed_of, length_of, record_of, store as stored};
-ghost use Rattle.stored.specs.Answers.{Room, stored_state};
+ghost use Rattle.stored.specs.Answers.{stored_state};
 
 use crate::bytes::write_bytes;
 use crate::{FIXED, RECORD};
-use machine::form::is_formed;
+use machine::formed::Formed;
 use machine::state::State;
 use rules::refusal::Refusal;
 use rules::room::room;
 
 // The fixed part at the front of the lent part; nothing after it differs.
-fn write_fixed(out: &mut [u8], s: &State)
-    requires { Room s.now 22 out.old }
-    ensures { out.new ≡ written fixed_widths (fixed_of (view s.now)) ++ drop 22 out.old }
+fn write_fixed(out: &mut [u8], formed: &Formed)
+    requires { 22 ≤ length out.old }
+    ensures { out.new ≡ written fixed_widths (fixed_of (view formed.now.state)) ++ drop 22 out.old }
 {
+    let s = &formed.state;
     write_bytes(out, 0, 1, u64::from(s.table.m.0));
     write_bytes(out, 1, 1, u64::from(s.table.n.0));
     write_bytes(out, 2, 4, u64::from(s.clock.0));
@@ -26,11 +27,12 @@ fn write_fixed(out: &mut [u8], s: &State)
 }
 
 // The record of the task at index i at the front of the lent part; nothing after it differs.
-fn write_task(out: &mut [u8], s: &State, i: usize)
-    requires room { Room s.now 34 out.old }
-    requires among { i < tasks s.now }
-    ensures { out.new ≡ record_of (view s.now) (i + 1) ++ drop 34 out.old }
+fn write_task(out: &mut [u8], formed: &Formed, i: usize)
+    requires room { 34 ≤ length out.old }
+    requires among { i < tasks formed.now.state }
+    ensures { out.new ≡ record_of (view formed.now.state) (i + 1) ++ drop 34 out.old }
 {
+    let s = &formed.state;
     let row = s.table.rows[i];
     write_bytes(out, 0, 4, u64::from(row.c));
     write_bytes(out, 4, 4, u64::from(row.t));
@@ -42,22 +44,22 @@ fn write_task(out: &mut [u8], s: &State, i: usize)
 }
 
 // The records of all tasks, one right after the other.
-fn write_tasks(out: &mut [u8], s: &State)
-    requires { Room s.now (34 * tasks s.now) out.old }
-    ensures { out.new ≡ join (map (record_of (view s.now)) (numbers (tasks s.now))) ++ drop (34 * tasks s.now) out.old }
+fn write_tasks(out: &mut [u8], formed: &Formed)
+    requires { 34 * tasks formed.now.state ≤ length out.old }
+    ensures { out.new ≡ join (map (record_of (view formed.now.state)) (numbers (tasks formed.now.state))) ++ drop (34 * tasks formed.now.state) out.old }
 {
-    for i in 0..s.table.n.0 as usize {
-        write_task(&mut out[RECORD * i..], s, i);
+    for i in 0..formed.state.table.n.0 as usize {
+        write_task(&mut out[RECORD * i..], formed, i);
     }
 }
 
 // The bytes of a state at the front of the lent part; nothing after them differs.
-fn write_state(out: &mut [u8], s: &State)
-    requires { Room s.now (length_of (tasks s.now)) out.old }
-    ensures { out.new ≡ stored (view s.now) ++ drop (length_of (tasks s.now)) out.old }
+fn write_state(out: &mut [u8], formed: &Formed)
+    requires { length_of (tasks formed.now.state) ≤ length out.old }
+    ensures { out.new ≡ stored (view formed.now.state) ++ drop (length_of (tasks formed.now.state)) out.old }
 {
-    write_fixed(out, s);
-    write_tasks(&mut out[FIXED..], s);
+    write_fixed(out, formed);
+    write_tasks(&mut out[FIXED..], formed);
 }
 
 // The bytes of a state, from a place of the buffer on: 9, then 7. No other byte differs, and on a refusal none at all. How many
@@ -65,11 +67,9 @@ fn write_state(out: &mut [u8], s: &State)
 pub fn store(s: State, out: &mut [u8], at: usize) -> Result<usize, Refusal>
     ensures { made result out.new ≡ stored_state s out.old at }
 {
-    if !is_formed(s) {
-        return Err(Refusal::BadState);
-    }
+    let formed = Formed::try_from(s)?;
     let size = FIXED + RECORD * (s.table.n.0 as usize);
     room(out.len(), at, size)?;
-    write_state(&mut out[at..], &s);
+    write_state(&mut out[at..], &formed);
     Ok(size)
 }

@@ -2,12 +2,12 @@
 use Rattle.std.proofs.Common.{Some, None, Ok, Err}
 use Prim.Native.Nat.{ℕ, ◌+◌, ◌*◌, ◌/◌, ◌%◌, ◌≤◌, ◌<◌}
 use mathlib.Core.Path.{◌≡◌, refl, sym, ap, ◌∙◌}
-use mathlib.Core.List.{List}
+use mathlib.Core.List.{List, map}
 use native.Mathlib.Nat.{mul-one, dvd_refl, dvd-zero, dvd-mod_iff, pos_of_dvd_of_pos}
 use native.Mathlib.Numerals.{add-one}
 use native.Mathlib.Omega.{arith}
 use lib.Dec.{lit<, lit≤}
-use lib.ListN.{length, get_or, drop, drop_of_length-le}
+use lib.ListN.{length, get_or, drop, drop_of_length-le, length-map, get_or-map}
 use lib.Seq.{drop-cons}
 use Rattle.laws.specs.Lists.{foldl}
 use Rattle.rules.specs.Limits.{repeat_max}
@@ -20,11 +20,11 @@ use Rattle.rules.specs.Repeat.{lcm, repeat_length}
 use Rattle.rules.specs.declared.kinds.Repeat.{Repeat}
 use Rattle.rules.specs.declared.refusal.Refusal.TheVariants.{BadRepeat}
 use Rattle.priority_laws.proofs.Repeat.{lcm_by_gcd, lcm_pos, repeat_pos, repeat-reached-le}
-use Rattle.tables.specs.Views.{zero_row, view, Formed, table_answer}
+use Rattle.tables.specs.Views.{zero_row, view_row, view, Formed, table_answer}
 use Rattle.tables.specs.Repeats.{Gcd, Reached}
+use Rattle.tables.specs.declared.table.Row as Code
 use Rattle.tables.specs.declared.table.Table.{Table}
 use Rattle.tables.proofs.Bounds.{repeat_within, repeat_above, repeat-taken, repeat-refused}
-use Rattle.tables.proofs.Views.{row-view}
 
 -- a turn keeps the greatest common divisor
 pub gcd_turn : (x y g : ℕ) → Gcd y (x % y) g → Gcd x y g
@@ -62,40 +62,42 @@ abbrev go_on : ℕ → List Row → ℕ
 go_on h rows = foldl (λ l r. lcm l r.t) h rows
 
 -- h is what the first i rows come to
-pub record Repeating (t : Table) (h : Repeat) (i : ℕ) : Type 0 where
+pub record Repeating (rows : List Code.Row) (h : Repeat) (i : ℕ) : Type 0 where
   pub reached : Reached h
-  pub same : go_on h.0 (drop i (view t).rows) ≡ repeat_length (view t).rows
+  pub same : go_on h.0 (drop i (map view_row rows)) ≡ repeat_length (map view_row rows)
 
-module _ (t : Table) where
+module _ (rows : List Code.Row) where
   -- no row is counted yet
-  pub repeating_starts : Repeating t (record { 0 = 1 }) 0
+  pub repeating_starts : Repeating rows (record { 0 = 1 }) 0
   unfolding repeat_length
   repeating_starts = record { reached = record { positive = lit< tt; bounded = lit≤ tt }; same = refl }
 
-  module _ (h : Repeat) (i : ℕ) (r : Repeating t h i) where
-    module _ (l : i < length (view t).rows) where
-      next : go_on h.0 (drop i (view t).rows) ≡ go_on (lcm h.0 (get_or t.rows i zero_row).t) (drop (i + 1) (view t).rows)
-      next = rw (drop-cons (view t).rows i no_row l, row-view t i l, add-one i)
+  module _ {h : Repeat} {i : ℕ} (r : Repeating rows h i) where
+    module _ (l : i < length rows) where
+      abbrev longer : ℕ
+      longer = lcm h.0 (get_or rows i zero_row).t
+
+      next : go_on h.0 (drop i (map view_row rows)) ≡ go_on longer (drop (i + 1) (map view_row rows))
+      next = rw (drop-cons (map view_row rows) i no_row (omega (arith, length-map rows view_row)), get_or-map view_row rows i zero_row, add-one i)
 
       -- one more row keeps it within the bound
-      pub repeating_goes_on : (x : Repeat) → repeat_of (lcm h.0 (get_or t.rows i zero_row).t) ≡ Some x → Repeating t x (i + 1)
-      repeating_goes_on x e =
-          let w = repeat-taken _ x e in
-          let same : lcm h.0 (get_or t.rows i zero_row).t ≡ x.0 = ap (λ (y : Repeat). y.0) w.1 in
-          record { reached = w.0; same = rw (← same) (sym next ∙ r.same) }
+      pub repeating_goes_on : {x : Repeat} → repeat_of longer ≡ Some x → Repeating rows x (i + 1)
+      repeating_goes_on e =
+          let w = repeat-taken _ _ e in
+          record { reached = w.0; same = rw (← ap (λ (y : Repeat). y.0) w.1) (sym next ∙ r.same) }
 
       -- one more row takes it past the bound, and H with it
-      pub repeating_stops : repeat_of (lcm h.0 (get_or t.rows i zero_row).t) ≡ None → repeat_of (repeat_length (view t).rows) ≡ None
+      pub repeating_stops : repeat_of longer ≡ None → repeat_of (repeat_length (map view_row rows)) ≡ None
       repeating_stops e =
-          let m : ℕ = lcm h.0 (get_or t.rows i zero_row).t in
-          let low : 0 < m = lcm_pos h.0 (get_or t.rows i zero_row).t r.reached.positive in
-          let high : repeat_max < m = repeat-refused m low e in
-          repeat_above (repeat_length (view t).rows) (omega (arith, sym next ∙ r.same, repeat-reached-le m (drop (i + 1) (view t).rows) low))
+          let low : 0 < longer = lcm_pos h.0 (get_or rows i zero_row).t r.reached.positive in
+          let high : repeat_max < longer = repeat-refused longer low e in
+          repeat_above (repeat_length (map view_row rows)) (omega (arith, sym next ∙ r.same, repeat-reached-le longer (drop (i + 1) (map view_row rows)) low))
 
     -- all rows are counted
-    pub repeating_ends : length (view t).rows ≤ i → repeat_of (repeat_length (view t).rows) ≡ Some h
+    pub repeating_ends : length rows ≤ i → repeat_of (repeat_length (map view_row rows)) ≡ Some h
     repeating_ends l =
-        let whole : h.0 ≡ repeat_length (view t).rows = rw (drop_of_length-le (view t).rows l) at r.same in
+        let all : length (map view_row rows) ≤ i = omega (arith, length-map rows view_row) in
+        let whole : h.0 ≡ repeat_length (map view_row rows) = rw (drop_of_length-le (map view_row rows) all) at r.same in
         rw (← whole) (repeat_within h.0 r.reached.positive r.reached.bounded)
 
 -- ---- the tests of all rows together

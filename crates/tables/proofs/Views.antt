@@ -5,6 +5,7 @@ use mathlib.Core.List.{List, [], ◌∷◌, ◌++◌, map}
 use native.Mathlib.Omega.{arith}
 use lib.ListN.{length, get_or, take, set, replicate, length-map, length-take, get_or-map}
 use lib.Seq.{get_or-take, take_at}
+use Rattle.std.proofs.lemmas.List.{take_min}
 use mir.Val.{Val}
 use denote.Laws.{Is}
 use denote.Struct.Declared.{row}
@@ -28,6 +29,11 @@ length-view t e = length-map (take t.n.0 t.rows) view_row ∙ length-take t.n.0 
 -- and of a struct that a function is handed, as `rows_of` counts them
 pub rows-counted : (t : Table) {vs : List Val} → Is (row TableType.the_type) t vs → {n : ℕ} → n ≡ min t.n.0 64 → n ≡ length (view t).rows
 rows-counted t owned e = e ∙ sym (length-view t (table_full t _ owned))
+
+-- where so many rows of it are lent, they are the table's
+pub rows-lent : (t : Table) {vs : List Val} → Is (row TableType.the_type) t vs → {n : ℕ} → n ≡ min t.n.0 64 → map view_row (take n t.rows) ≡ (view t).rows
+unfolding view
+rows-lent t owned e = ap (map view_row) (rw (e, ← table_full t _ owned) (take_min t.n.0 t.rows))
 
 -- each row that counts
 pub row-view : (t : Table) (i : ℕ) → i < length (view t).rows → get_or (view t).rows i Tables.no_row ≡ view_row (get_or t.rows i zero_row)

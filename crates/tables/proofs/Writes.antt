@@ -7,7 +7,7 @@ use native.Mathlib.Numerals.{add-one}
 use native.Mathlib.Omega.{arith}
 use borrow.Rule.Slice.PartMut.{mid_of, put_mid}
 use lib.Dec.{T}
-use lib.ListN.{length, get_or, take, drop}
+use lib.ListN.{length, get_or, take, drop, length-map, get_or-map}
 use lib.Seq.{take-suc, take_all}
 use Rattle.laws.specs.Lists.{join}
 use Rattle.laws.proofs.Joins.{join_last}
@@ -24,43 +24,51 @@ use Rattle.rules.specs.declared.refusal.Refused.{Refused}
 use Rattle.rules.proofs.Results.{reply_ok, reply_err}
 use Rattle.reading_laws.proofs.Files.{length-rows, length-text}
 use Rattle.reading_laws.proofs.Tests.{first_passed, first_stays, settle-taken, settle-refused, accepts-iff}
-use Rattle.tables.specs.Views.{zero_row, pack, view, table_answer}
+use Rattle.tables.specs.Views.{zero_row, view_row, pack, view, table_answer}
 use Rattle.tables.specs.Pairs.{pair_shape}
 use Rattle.tables.specs.Writes.{made, wrote, wrote_text, written_list}
+use Rattle.tables.specs.declared.table.Row.{Row}
 use Rattle.tables.specs.declared.table.Table.{Table}
-use Rattle.tables.proofs.Views.{row-view}
 use Rattle.tables.proofs.Written.{text_short, text-written}
 use Rattle.reading_laws.proofs.Laying.{first, more, laid-front, Pieces, next_piece, all_pieces}
 use Rattle.tables.proofs.Pairs.{length_pair}
 
--- the lines of the first rows of a table
-abbrev pub first_lines : Table → ℕ → List ℕ
-first_lines t i = join (map row_line (take i (view t).rows))
+-- the lines of the first rows
+abbrev pub first_lines : List Rules.Row → ℕ → List ℕ
+first_lines rows i = join (map row_line (take i rows))
 
-module _ (t : Table) where
-  -- one more line
-  more_lines : (i : ℕ) → i < length (view t).rows → first_lines t (i + 1) ≡ first_lines t i ++ row_line (get_or (view t).rows i no_row)
-  more_lines i l =
-      let rows : List Rules.Row = (view t).rows in
-      let r : Rules.Row = get_or rows i no_row in
-      rw (add-one i, take-suc rows i no_row l, map-append row_line (take i rows) (r ∷ [])) (join_last (map row_line (take i rows)) (row_line r))
+-- one more line
+more_lines : (rows : List Rules.Row) (i : ℕ) → i < length rows → first_lines rows (i + 1) ≡ first_lines rows i ++ row_line (get_or rows i no_row)
+more_lines rows i l =
+    let r : Rules.Row = get_or rows i no_row in
+    rw (add-one i, take-suc rows i no_row l, map-append row_line (take i rows) (r ∷ [])) (join_last (map row_line (take i rows)) (row_line r))
 
-  module _ {out₀ out : List ℕ} {at i : ℕ} (p : Pieces (first_lines t) 11 (length (view t).rows) out₀ out at i) where
+-- the lines of the first i rows that are lent stand at the front
+abbrev pub Lines : List Row → List ℕ → List ℕ → ℕ → ℕ → Type 0
+Lines lent out₀ out at i = Pieces (first_lines (map view_row lent)) 11 (length (map view_row lent)) out₀ out at i
+
+module _ (lent : List Row) {out₀ out : List ℕ} {at i : ℕ} (p : Lines lent out₀ out at i) where
+  abbrev rows : List Rules.Row
+  rows = map view_row lent
+
+  module _ (l : i < length lent) where
+    in_rows : i < length rows
+    in_rows = omega (arith, length-map lent view_row)
+
     -- one more line is written through the lent tail
-    pub next-line : i < length (view t).rows → {tail : List ℕ}
-        → tail ≡ frame (pair_shape 2 4) ((get_or t.rows i zero_row).c ∷ (get_or t.rows i zero_row).t ∷ []) ++ drop 11 (mid_of at (length out - at) out)
-        → Pieces (first_lines t) 11 (length (view t).rows) out₀ (put_mid at (length out - at) out tail) (at + 11) (i + 1)
+    pub next-line : {tail : List ℕ} → tail ≡ frame (pair_shape 2 4) ((get_or lent i zero_row).c ∷ (get_or lent i zero_row).t ∷ []) ++ drop 11 (mid_of at (length out - at) out)
+        → Lines lent out₀ (put_mid at (length out - at) out tail) (at + 11) (i + 1)
     unfolding row_line
-    next-line l e =
-        let c : ℕ = (get_or t.rows i zero_row).c in
-        let d : ℕ = (get_or t.rows i zero_row).t in
-        next_piece p l (frame (pair_shape 2 4) (c ∷ d ∷ [])) (length_pair 2 4 c d) (more_lines i l ∙ ap (λ (r : Rules.Row). first_lines t i ++ row_line r) (row-view t i l)) e
+    next-line e =
+        let c : ℕ = (get_or lent i zero_row).c in
+        let d : ℕ = (get_or lent i zero_row).t in
+        next_piece p in_rows (frame (pair_shape 2 4) (c ∷ d ∷ [])) (length_pair 2 4 c d) (more_lines rows i in_rows ∙ ap (λ (r : Rules.Row). first_lines rows i ++ row_line r) (get_or-map view_row lent i zero_row)) e
 
-    -- all lines are written
-    pub lines-written : length (view t).rows ≤ i → out ≡ join (map row_line (view t).rows) ++ drop (11 * length (view t).rows) out₀
-    lines-written l =
-        let rows : List Rules.Row = (view t).rows in
-        all_pieces p l ∙ ap (λ (x : List Rules.Row). join (map row_line x) ++ drop (11 * length rows) out₀) (take_all (length rows) rows (omega arith))
+  -- all lines are written
+  pub lines-written : length lent ≤ i → out ≡ join (map row_line rows) ++ drop (11 * length rows) out₀
+  lines-written l =
+      let all : length rows ≤ i = omega (arith, length-map lent view_row) in
+      all_pieces p all ∙ ap (λ (x : List Rules.Row). join (map row_line x) ++ drop (11 * length rows) out₀) (take_all (length rows) rows (omega arith))
 
 -- ---- a whole table
 

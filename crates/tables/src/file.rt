@@ -16,9 +16,10 @@ fn read_rows(s: &[u8], n: usize) -> Result<[Row; 64], Refused>
 {
     let mut rows = NO_ROWS;
     let mut at: usize = 0;
+    // By index: it gives the row's place and its line.
     for i in 0..n {
         rows[i] = row::read_row(&s[at..], i as u32 + 2)?;
-        at += frame::ROW_BYTES;
+        at += frame::ROW.bytes();
     }
     Ok(rows)
 }
@@ -29,8 +30,10 @@ fn read_lines(s: &[u8]) -> Result<Table, Refused>
 {
     let Header { m, n } = header::read_header(s)?;
     let count = n.0 as usize;
-    let rows = read_rows(&s[frame::HEADER_BYTES..], count)?;
-    if frame::HEADER_BYTES + frame::ROW_BYTES * count < s.len() {
+    let start = frame::HEADER.bytes();
+    let rows = read_rows(&s[start..], count)?;
+    let end = start + frame::ROW.bytes() * count;
+    if end < s.len() {
         return Err(Refusal::Trailing.at(n.0 + 2));
     }
     Ok(Table { m, n, rows })

@@ -4,7 +4,6 @@ ghost use Rattle.rules.specs.Files.{read_header};
 ghost use Rattle.tables.specs.Headers.{header_answer, header_read, test_header};
 
 use crate::frame;
-use rules::frame_type::FrameType;
 use rules::kinds::{Cores, Kind, Tasks};
 use rules::refusal::{Refusal, Refused};
 
@@ -32,7 +31,7 @@ pub fn test_header(m: u32, n: usize, line: u32) -> Result<Header, Refused>
 pub(crate) fn read_header(s: &[u8]) -> Result<Header, Refused>
     ensures { result ≡ header_read (read_header s.now) }
 {
-    let Some((m, n)) = frame::read_pair(s, FrameType::Header, frame::HEADER_WIDTH) else {
+    let Some((m, n)) = frame::HEADER.read(s) else {
         return Err(Refusal::BadLine.at(1));
     };
     test_header(m, n as usize, 1)

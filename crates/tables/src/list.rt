@@ -16,8 +16,9 @@ fn test_rows(list: &[[u32; 2]]) -> Result<[Row; 64], Refused>
     ensures { result ≡ rows_answer (test_rows (list_rows list.now)) }
 {
     let mut rows = NO_ROWS;
-    for i in 0..list.len() {
-        rows[i] = row::test_row(list[i][0], list[i][1], 0)?;
+    // By index: of places that `iter_mut` lends beside another list, nothing is known once they come back.
+    for (i, &[c, t]) in list.iter().enumerate() {
+        rows[i] = row::test_row(c, t, 0)?;
     }
     Ok(rows)
 }

@@ -17,6 +17,7 @@ fn gcd(a: u32, b: u32) -> u32
 {
     let mut x: u32 = a;
     let mut y: u32 = b;
+    // No `for` fits: how many turns there are shows on the way.
     while 0 < y {
         let r = x % y;
         x = y;
@@ -54,8 +55,8 @@ pub fn repeat_length(table: Table) -> Option<Repeat>
     ensures { result ≡ repeat_of (repeat_length (view table).rows) }
 {
     let mut h = Repeat(1);
-    for i in 0..rows_of(table.n) {
-        h = lcm(h, table.rows[i].t)?;
+    for row in &table.rows[..rows_of(table.n)] {
+        h = lcm(h, row.t)?;
     }
     Some(h)
 }

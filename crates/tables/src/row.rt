@@ -5,7 +5,6 @@ ghost use Rattle.tables.specs.Rows.{row_answer, row_read, test_row};
 
 use crate::frame;
 use crate::table::Row;
-use rules::frame_type::FrameType;
 use rules::kinds::{Kind, Period};
 use rules::refusal::{Refusal, Refused};
 
@@ -25,7 +24,7 @@ pub fn test_row(c: u32, t: u32, line: u32) -> Result<Row, Refused>
 pub(crate) fn read_row(s: &[u8], line: u32) -> Result<Row, Refused>
     ensures { result ≡ row_read (read_row line s.now) }
 {
-    let Some((c, t)) = frame::read_pair(s, FrameType::Row, frame::ROW_WIDTH) else {
+    let Some((c, t)) = frame::ROW.read(s) else {
         return Err(Refusal::BadLine.at(line));
     };
     test_row(c, t, line)

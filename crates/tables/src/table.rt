@@ -12,6 +12,7 @@ pub struct Row {
 }
 
 // m, n, and the rows of tasks 1 to n. The rows past them are 0.
+// Places for 64 rows and n beside them, since nothing lies on a heap, and a caller's struct with other rows past n is an argument too.
 #[derive(Clone, Copy)]
 pub struct Table {
     pub m: Cores,

@@ -8,7 +8,6 @@ ghost use Rattle.tables.specs.Writes.{made, written_list};
 
 use crate::table::Table;
 use crate::{frame, list, repeat};
-use rules::frame_type::FrameType;
 use rules::refusal::Refusal;
 use rules::room::room;
 
@@ -18,15 +17,10 @@ fn write_rows(out: &mut [u8], table: Table)
     ensures { out.new ≡ join (map row_line (view table).rows) ++ drop (11 * length (view table).rows) out.old }
 {
     let mut at: usize = 0;
-    for i in 0..repeat::rows_of(table.n) {
-        frame::write_pair(
-            &mut out[at..],
-            FrameType::Row,
-            frame::ROW_WIDTH,
-            table.rows[i].c,
-            table.rows[i].t,
-        );
-        at += frame::ROW_BYTES;
+    // Each line starts where the one before it ends.
+    for row in &table.rows[..repeat::rows_of(table.n)] {
+        frame::ROW.write(&mut out[at..], row.c, row.t);
+        at += frame::ROW.bytes();
     }
 }
 
@@ -36,14 +30,8 @@ fn write_table(out: &mut [u8], table: Table)
     ensures { out.new ≡ text (view table) ++ drop (7 + 11 * length (view table).rows) out.old }
 {
     let n = repeat::rows_of(table.n);
-    frame::write_pair(
-        out,
-        FrameType::Header,
-        frame::HEADER_WIDTH,
-        table.m.0,
-        n as u32,
-    );
-    write_rows(&mut out[frame::HEADER_BYTES..], table);
+    frame::HEADER.write(out, table.m.0, n as u32);
+    write_rows(&mut out[frame::HEADER.bytes()..], table);
 }
 
 // The text of a list of rows, from a place of the buffer on. No other byte differs, and on a refusal none at all. How many
@@ -52,7 +40,7 @@ pub fn write_list(m: u32, list: &[[u32; 2]], out: &mut [u8], place: usize) -> Re
     ensures { made result out.new ≡ written_list m (list_rows list.now) out.old place }
 {
     let table = list::take_list(m, list)?;
-    let size = frame::HEADER_BYTES + frame::ROW_BYTES * repeat::rows_of(table.n);
+    let size = frame::HEADER.bytes() + frame::ROW.bytes() * repeat::rows_of(table.n);
     room(out.len(), place, size)?;
     write_table(&mut out[place..], table);
     Ok(size)

@@ -3,4 +3,4 @@ use Rattle.engine.proofs.Ending.{Going}
 use Rattle.engine.proofs.end.end.Given as goal
 
 abbrev pub invariant-loop-i : goal.invariant-loop-i
-invariant-loop-i l = Going l.c l.t l.initial.phase l.initial.left l.initial.dropped l.phase l.left l.dropped l.misses l.i
+invariant-loop-i l = Going l.columns.c.now l.columns.t.now l.initial.phase l.initial.left l.initial.dropped l.phase l.left l.dropped l.misses l.i

@@ -8,9 +8,12 @@ use Rattle.reports.proofs.report.report.Goals as goal
 
 pub returns-in_err-room : goal.returns-in_err-room
 returns-in_err-room c =
-    ap (λ (a : Result ℕ Refusal). made a c.args.out.now) (passed_on _ c.from_residual.ensures.1)
-    ∙ no_room _ _ _ c.read_input-answer.ensures c.reply_length-size.ensures (sym c.room.ensures ∙ c.in_err-room.was)
+    let a = c.args in
+    ap (λ (r : Result ℕ Refusal). made r a.out.now) (passed_on _ c.from_residual.ensures.1)
+    ∙ no_room a.input.now a.out.now a.at c.read_input-answer.ensures c.reply_length-size.ensures (sym c.room.ensures ∙ c.in_err-room.was)
 
 pub returns : goal.returns
 returns c =
-    room_given _ _ _ c.read_input-answer.ensures c.reply_length-size.ensures (sym c.room.ensures ∙ c.in_ok-room.was) c.write_reply.ensures
+    let a = c.args in
+    room_given a.input.now a.out.now a.at c.read_input-answer.ensures c.reply_length-size.ensures (sym c.room.ensures ∙ c.in_ok-room.was)
+    c.write_reply.ensures

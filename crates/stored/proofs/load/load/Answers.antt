@@ -1,6 +1,8 @@
 -- `stored::load::load` meets its contract: the tests in their order, each of which refuses as the definition does.
-use mathlib.Core.Path.{sym, ◌∙◌}
+use mathlib.Core.Path.{ap, ◌∙◌}
 use native.Mathlib.Omega.{arith}
+use Rattle.std.proofs.Common.{Ok}
+use Rattle.machine.proofs.Testing.{passed, well, failed}
 use Rattle.stored.proofs.Decoding.{too_short, wrong_length, too_many, counted, ill_formed, well_formed_lem}
 use Rattle.stored.proofs.load.load.Goals as goal
 
@@ -16,10 +18,12 @@ returns-then-n c = too_many _ c.if-bytes-lt-FIXED.false _ c.from-n.ensures c.if-
 pub invariant_of-stored-clause-said : goal.invariant_of-stored-clause-said
 invariant_of-stored-clause-said c = counted _ c.if-bytes-lt-FIXED.false _ c.from-n.ensures
 
-pub returns-then-not-is_formed : goal.returns-then-not-is_formed
-returns-then-not-is_formed c =
-    ill_formed _ c.if-bytes-lt-FIXED.false _ c.from-n.ensures c.if-bytes-n.false c.if-n.false c.state-state.ensures (sym c.is_formed.ensures ∙ c.if-not-is_formed.true)
+pub returns-in_err-try_from : goal.returns-in_err-try_from
+returns-in_err-try_from c =
+    let told = failed _ c.try_from.ensures c.in_err-try_from.was c.from_residual.ensures.1 in
+    told.0 ∙ ill_formed _ c.if-bytes-lt-FIXED.false _ c.from-n.ensures c.if-bytes-n.false c.if-n.false c.state.ensures told.1
 
 pub returns : goal.returns
 returns c =
-    well_formed_lem _ c.if-bytes-lt-FIXED.false _ c.from-n.ensures c.if-bytes-n.false c.if-n.false c.state-state.ensures (sym c.is_formed.ensures ∙ c.if-not-is_formed.false)
+    ap Ok (passed _ c.try_from.ensures c.in_ok-try_from.was)
+    ∙ well_formed_lem _ c.if-bytes-lt-FIXED.false _ c.from-n.ensures c.if-bytes-n.false c.if-n.false c.state.ensures (well _ c.try_from.ensures c.in_ok-try_from.was)

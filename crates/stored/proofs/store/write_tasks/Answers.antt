@@ -5,7 +5,7 @@ use Rattle.stored.proofs.Storing.{next_record}
 use Rattle.stored.proofs.store.write_tasks.Goals as goal
 
 pub loop-i-init : goal.loop-i-init
-loop-i-init c = no_piece refl c.requires.room
+loop-i-init c = no_piece refl c.requires
 
 pub loop-i-preserved : goal.loop-i-preserved
 loop-i-preserved c = next_record _ c.loop-i.invariant c.loop-i-test.true c.write_task.ensures

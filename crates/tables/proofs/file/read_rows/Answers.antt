@@ -19,7 +19,7 @@ returns-in_err-rows c =
 pub loop-i-preserved : goal.loop-i-preserved
 loop-i-preserved c =
     let lent = tail_lent c.args.s.now c.loop-i.at c.loop-i.invariant.inside in
-    rows_go_on _ _ _ _ _ c.loop-i.invariant c.loop-i-test.true _ c.requires (rw lent at (sym c.read_row.ensures ∙ c.in_ok-rows.was))
+    rw c.bytes.ensures (rows_go_on _ _ _ _ _ c.loop-i.invariant c.loop-i-test.true _ c.requires (rw lent at (sym c.read_row.ensures ∙ c.in_ok-rows.was)))
 
 pub returns : goal.returns
 returns c = rows_end _ _ _ _ _ c.loop-i.invariant c.loop-i-test.false

@@ -2,5 +2,5 @@
 use Rattle.tables.proofs.Repeats.{Repeating}
 use Rattle.tables.proofs.repeat.repeat_length.Given as goal
 
-abbrev pub invariant-loop-i : goal.invariant-loop-i
-invariant-loop-i l = Repeating l.table l.h l.i
+abbrev pub invariant-loop-row : goal.invariant-loop-row
+invariant-loop-row l = Repeating l.row-items l.h l.row-index

@@ -6,4 +6,4 @@ use Rattle.tables.proofs.write.write_table.Goals as goal
 pub returns : goal.returns
 returns c =
     let count = rows-counted c.args.table c.well_formed.1.0 c.rows_of-n.ensures in
-    table-written _ _ c.requires _ count _ _ c.write_pair.ensures c.write_rows.ensures
+    rw c.bytes.ensures (table-written _ _ c.requires _ count _ _ c.write.ensures (rw c.bytes.ensures at c.write_rows.ensures))
