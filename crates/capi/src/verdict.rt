@@ -15,7 +15,7 @@ use rules::room::room;
 use stored::load::load;
 use tables::table::Table;
 
-// Both frames of a table, from a place of the buffer on.
+// Both frames of a table, from a place of the buffer on. `Opened` is a clause: see `machine::fresh::fresh`.
 fn write_head_at(t: Table, out: &mut [u8], at: usize) -> Result<usize, Refusal>
     requires { Opened t }
     ensures { made result out.new ≡ wrote_text out.old at (head (view t)) }

@@ -60,6 +60,8 @@ pub fn read_field(s: &[u8], from: usize, width: usize) -> Option<u64>
 }
 
 // The `width` bytes from a place on become v in so many digits; no other byte differs.
+// Buffer, place, width and number are four parameters here, in `write_places` and in `stored`'s `write_bytes`: a struct of them would be
+// made and taken apart in one line.
 pub fn write_field(out: &mut [u8], at: usize, width: usize, v: u64)
     requires { at + width ≤ length out.old }
     ensures { out.new ≡ lay out.old at (field width v) }

@@ -12,6 +12,7 @@ fn pending(left: &[u32], i: u8) -> bool
 
 // As many as `chosen` has places: the first of them are filled, and their number is returned. Each task is put down and stays if
 // it waits: which tasks do changes from slot to slot, and a branch on it would be guessed wrong too often.
+// The number and not the part is returned: a part that comes out of `chosen` is no plainer to say of than `chosen` and a number.
 pub fn choose(ranks: &[u8], left: &[u32], chosen: &mut [u8]) -> usize
     requires { Named (length left.now) ranks.now }
     ensures { Chose ranks.now left.now chosen.old chosen.new result }

@@ -19,9 +19,10 @@ pub fn end(columns: Columns<'_>, phase: &mut [u32], left: &mut [u32], dropped: &
     ensures { Ended columns.entry.c.now columns.entry.t.now phase.old left.old dropped.old phase.new left.new dropped.new result }
 {
     let mut misses = 0;
+    // By index: two lists are read and three change.
     for i in 0..left.len() {
         let next = next_phase(phase[i], columns.t[i]);
-        // Read once and before the phase is put: the walk's vector code is then the shortest.
+        // Read before the phase is written: the walk's vector code is then the shortest.
         let units = left[i];
         phase[i] = next;
         left[i] = at_release(next, columns.c[i], units);

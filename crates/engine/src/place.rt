@@ -78,7 +78,7 @@ fn remember(last: &mut [u8], i: u8, core: u8) -> u32
 }
 
 // Each of the others takes the lowest free core: a core that was passed is not free any more. The number of moves is returned.
-// One walk: a search for the next free core in a walk along the others is made a call by the compiler, and that costs more.
+// One walk over the cores: a walk over the others with a search for each one's core took longer, since the search became a call.
 fn fill(others: &[u8], last: &mut [u8], cores: &mut [u8]) -> u32
     requires { Filling others.now last.old cores.old }
     ensures { Filled others.now last.old cores.old last.new cores.new result }

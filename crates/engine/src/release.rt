@@ -1,5 +1,5 @@
-// Slot s begins: a task whose period divides s releases a job of its C units. This is for the first slot of a run: between two slots
-// the end of the first does it.
+// Slot s begins: a task whose period divides s releases a job of its C units. This is for the first slot of a run, and to take back what
+// was released after its last: between two slots the end of the first does it.
 ghost use Rattle.std.specs.Prelude.{◌≡◌, cond, length, eqb};
 ghost use Rattle.engine.specs.Step.{released_on};
 
@@ -10,7 +10,7 @@ pub(crate) fn at_release(phase: u32, released: u32, other: u32) -> u32
     if phase == 0 { released } else { other }
 }
 
-// `phase` has, for each task, the slots since its last release; 0 where it releases now.
+// `phase` has, for each task, the slots since its last release; 0 where it releases now. It and `c` lie beside `left`, as in `Columns`.
 pub fn release(left: &mut [u32], phase: &[u32], c: &[u32])
     requires { (length phase.now ≡ length left.old) × (length c.now ≡ length left.old) }
     ensures { left.new ≡ released_on c.now phase.now left.old }

@@ -17,7 +17,6 @@ pub struct SlotCounts {
 
 // `phase` has the slots since each task's last release. The jobs of the slot are released in `left` before it, and those of the next
 // slot after it. No core holds a task before it; the placing is put into `cores`.
-// The five lists that change are lent one by one: a struct of them would ask a clause for each, that it is still the same list.
 pub fn slot(
     columns: Columns<'_>,
     phase: &mut [u32],

@@ -1,5 +1,5 @@
 pub mod PairLoop
 pub mod Lookup
 pub mod SlotFrame
-pub mod RefusalFrame
+pub mod FieldLoop
 pub mod Unique

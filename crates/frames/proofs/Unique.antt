@@ -4,6 +4,7 @@ use Rattle.frames.proofs.names.Names.new.Reads as names
 use Rattle.frames.proofs.names.Names.write.Reads as write-name
 use Rattle.frames.proofs.start.write_type.Reads as write-type
 use Rattle.frames.proofs.pairs.write_pairs.Reads as write-pairs
+use Rattle.frames.proofs.fields.write_fields.Reads as write-fields
 use Rattle.frames.proofs.slot.write_slot.Reads as write-slot
 use Rattle.frames.proofs.refusal.write_refusal.Reads as write-refusal
 
@@ -18,6 +19,9 @@ write_type_once κs a x y s t p q = both p q
 
 pub write_pairs_once : One write-pairs.Post (λ κs r s. s.0.now)
 write_pairs_once κs a x y s t p q = both p q
+
+pub write_fields_once : One write-fields.Post (λ κs r s. s.0.now)
+write_fields_once κs a x y s t p q = both p q
 
 pub write_slot_once : One write-slot.Post (λ κs r s. s.0.now)
 write_slot_once κs a x y s t p q = both p q

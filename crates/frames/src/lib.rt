@@ -1,6 +1,7 @@
-// Frames of the output, written into the front of a lent part of a buffer.
+// Frames, written into the front of a lent part of a buffer.
 #![tactic(auto)]
 
+pub mod fields;
 pub mod names;
 pub mod pairs;
 pub mod refusal;

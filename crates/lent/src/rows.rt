@@ -18,7 +18,7 @@ pub fn take_rows(m: u32, rows: &[Row]) -> Result<Table, Refused>
 {
     let n = rows.len().min(PLACES);
     let mut pairs = [[0; 2]; PLACES];
-    // By index: of places that `iter_mut` lends beside another list, nothing is known once they come back.
+    // By index: the prover knows nothing of what `iter_mut` changed in a loop over two lists.
     for (i, row) in rows[..n].iter().enumerate() {
         pairs[i] = [row.c, row.t];
     }

@@ -47,9 +47,9 @@ row_here s i = get_or s.table.rows (i - 1) Tables.zero_row
 abbrev pub given_here : State → ℕ → ℕ
 given_here s i = (get_or s.done (i - 1) (units 0)).0
 
-module _ (f : Formed) (i : ℕ) (low : 1 ≤ i) (high : i ≤ tasks f.state) where
+module _ (f : Formed) (i : ℕ) (low : 1 ≤ i) (high : i ≤ tasks f.state.now) where
   abbrev s : State
-  s = f.state
+  s = f.state.now
 
   place : i - 1 + 1 ≡ i
   place = omega arith
@@ -109,28 +109,28 @@ pub lead_ill : (s : State) (i : ℕ) → formed s ≡ false → Err BadState ≡
 unfolding ask_lead
 lead_ill s i e = ap lead_answer (sym (asked_ill s (tests i) (λ st. lead st i) e))
 
-module _ (f : Formed) {s : State} (same : f.state ≡ s) (i : ℕ) where
+module _ (f : Formed) {s : State} (same : f.state.now ≡ s) (i : ℕ) where
   -- there is no such task
-  pub lead-out : outside i 1 (tasks f.state) ≡ true → Err BadTasks ≡ lead_answer (asked s (λ st. ask_lead st i))
+  pub lead-out : outside i 1 (tasks f.state.now) ≡ true → Err BadTasks ≡ lead_answer (asked s (λ st. ask_lead st i))
   unfolding ask_lead
-  lead-out e = rw (← same) (sym (ap lead_answer (asked_well f.state (tests i) (λ st. lead st i) f.good) ∙ rw (sizes f, e)))
+  lead-out e = rw (← same) (sym (ap lead_answer (asked_well f.state.now (tests i) (λ st. lead st i) f.good) ∙ rw (sizes f, e)))
 
   -- there is: its place in the arrays, and the parts of its lead, which are small
-  module _ (e : outside i 1 (tasks f.state) ≡ false) where
+  module _ (e : outside i 1 (tasks f.state.now) ≡ false) where
     pub lead-place : (1 ≤ i) × (i - 1 < tasks_max)
     lead-place =
-        let w = within i 1 (tasks f.state) e in
+        let w = within i 1 (tasks f.state.now) e in
         (w.least, omega (arith, w.least, w.most, f.few))
 
-    module _ {p q : ℕ} (ep : p ≡ (row_here f.state i).t) (eq : q ≡ f.state.clock.0 * (row_here f.state i).c) where
-      pub lead_parts : Small (given_here f.state i * p) q
+    module _ {p q : ℕ} (ep : p ≡ (row_here f.state.now i).t) (eq : q ≡ f.state.now.clock.0 * (row_here f.state.now i).c) where
+      pub lead_parts : Small (given_here f.state.now i * p) q
       lead_parts =
-          let w = within i 1 (tasks f.state) e in
+          let w = within i 1 (tasks f.state.now) e in
           rw (ep, eq) (lead-small f i w.least w.most)
 
-      pub lead_in : (z : ℤ) → z ≡ pos (given_here f.state i * p) -ℤ pos q → Ok z ≡ lead_answer (asked s (λ st. ask_lead st i))
+      pub lead_in : (z : ℤ) → z ≡ pos (given_here f.state.now i * p) -ℤ pos q → Ok z ≡ lead_answer (asked s (λ st. ask_lead st i))
       unfolding ask_lead
       lead_in z h =
-          let w = within i 1 (tasks f.state) e in
-          let whole : z ≡ lead (view f.state) i = h ∙ rw (ep, eq) (sym (lead_is f i w.least w.most)) in
-          ap Ok whole ∙ rw (← same) (sym (ap lead_answer (asked_well f.state (tests i) (λ st. lead st i) f.good) ∙ rw (sizes f, e)))
+          let w = within i 1 (tasks f.state.now) e in
+          let whole : z ≡ lead (view f.state.now) i = h ∙ rw (ep, eq) (sym (lead_is f i w.least w.most)) in
+          ap Ok whole ∙ rw (← same) (sym (ap lead_answer (asked_well f.state.now (tests i) (λ st. lead st i) f.good) ∙ rw (sizes f, e)))

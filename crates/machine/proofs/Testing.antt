@@ -19,7 +19,7 @@ use Rattle.machine.proofs.Asking.{formed-says}
 
 module _ (s : State) {r : Result Formed Refusal} (t : Tested s r) where
   -- the state that passed is the one that was given
-  pub passed : {f : Formed} → r ≡ Ok f → f.state ≡ s
+  pub passed : {f : Formed} → r ≡ Ok f → f.state.now ≡ s
   passed e = rw e at t
 
   -- and it is well formed
@@ -33,23 +33,23 @@ module _ (s : State) {r : Result Formed Refusal} (t : Tested s r) where
       (passed_on q h ∙ ap Err told.0, told.1)
 
 module _ (f : Formed) where
-  pub padded_of : T (padded f.state)
-  padded_of = (formed-says f.state f.good).0
+  pub padded_of : T (padded f.state.now)
+  padded_of = (formed-says f.state.now f.good).0
 
-  pub formed_of : T (well_formed (view f.state))
-  formed_of = (formed-says f.state f.good).1
+  pub formed_of : T (well_formed (view f.state.now))
+  formed_of = (formed-says f.state.now f.good).1
 
-  pub kept : Kept (view f.state)
-  kept = formed-kept (view f.state) formed_of
+  pub kept : Kept (view f.state.now)
+  kept = formed-kept (view f.state.now) formed_of
 
-  pub few_cores : f.state.table.m.0 ≤ cores_max
+  pub few_cores : f.state.now.table.m.0 ≤ cores_max
   unfolding view Tables.view
   few_cores = kept.taken.cores_high
 
-  pub soon : f.state.clock.0 ≤ clock_max
+  pub soon : f.state.now.clock.0 ≤ clock_max
   unfolding view
-  soon = formed-clock (view f.state) formed_of
+  soon = formed-clock (view f.state.now) formed_of
 
-  pub sizes : size (view f.state).table ≡ tasks f.state
+  pub sizes : size (view f.state.now).table ≡ tasks f.state.now
   unfolding view
-  sizes = size-view f.state.table f.full.rows f.few
+  sizes = size-view f.state.now.table f.full.rows f.few

@@ -7,7 +7,7 @@ use Rattle.machine.specs.declared.state.State.{State}
 use Rattle.machine.specs.declared.formed.Formed.{Formed}
 use Rattle.rules.specs.declared.refusal.Refusal.{Refusal}
 use Rattle.machine.proofs.form.is_formed.Reads as is_formed
-use Rattle.machine.proofs.formed.FormedTryFromState.try_from.Reads as formed
+use Rattle.machine.proofs.formed.FormedTryFromRefState.try_from.Reads as formed
 use Rattle.machine.proofs.fresh.fresh.Reads as fresh
 use Rattle.machine.proofs.lead.lead.Reads as lead
 use Rattle.machine.proofs.totals.write_totals.Reads as write-totals
@@ -17,7 +17,7 @@ is_formed_once κs a x y s t p q = both p q
 
 -- the state that passed, or the refusal
 abbrev pub shown : Result Formed Refusal → Result State Refusal
-shown (Ok f) = Ok f.state
+shown (Ok f) = Ok f.state.now
 shown (Err e) = Err e
 
 pub formed_once : One formed.Post (λ κs r s. shown r)

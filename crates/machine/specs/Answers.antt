@@ -17,7 +17,7 @@ asked s ask = cond (padded s) (ask (view s)) (refused BadState 0)
 
 -- the state where it is well formed, and 9 where it is not
 abbrev pub Tested : State → Result Formed Refusal → Type 0
-Tested s r = MatchResult r (λ f. f.state ≡ s) (λ e. (e ≡ BadState) × (formed s ≡ false))
+Tested s r = MatchResult r (λ f. f.state.now ≡ s) (λ e. (e ≡ BadState) × (formed s ≡ false))
 
 -- ---- the lead
 

@@ -1,5 +1,5 @@
 // Whether a state that a caller hands back is well formed. Nothing is summed before it is known to be small.
-ghost use Rattle.std.specs.Prelude.{◌≡◌, ◌&&◌, ◌+◌, ◌*◌, ◌≤◌, ◌<◌, eqb, leb};
+ghost use Rattle.std.specs.Prelude.{◌≡◌, ◌&&◌, ◌+◌, ◌*◌, ◌<◌, eqb, leb};
 ghost use Rattle.laws.specs.Lists.{all, numbers};
 ghost use Rattle.rules.specs.Limits.{tasks_max};
 ghost use Rattle.rules.specs.Rows as Rules;

@@ -10,23 +10,31 @@ use crate::state::State;
 use rules::refusal::Refusal;
 
 #[derive(Clone, Copy)]
-pub struct Formed {
-    pub state: State,
-    pub ghost good: { formed state ≡ true },
-    pub ghost full: { Full state },
-    pub ghost few: { tasks state ≤ tasks_max },
+pub struct Formed<'a> {
+    pub state: &'a State,
+    pub ghost good: { formed state.now ≡ true },
+    pub ghost full: { Full state.now },
+    pub ghost few: { tasks state.now ≤ tasks_max },
 }
 
-impl TryFrom<State> for Formed {
+// A state by value has full arrays; of one that is lent this is not known yet.
+fn is_whole(s: State) -> bool
+    ensures form { result ≡ formed s }
+    ensures full { Full s }
+{
+    is_formed(s)
+}
+
+impl<'a> TryFrom<&'a State> for Formed<'a> {
     ghost use Rattle.machine.specs.Answers.{Tested};
 
     type Error = Refusal;
 
-    ghost try_from_gives = { Tested };
+    ghost try_from_gives = { λ s r. Tested s.now r };
 
     #[tactic(auto, using(crate::proofs::Asking::formed_few))]
-    fn try_from(state: State) -> Result<Formed, Refusal> {
-        if !is_formed(state) {
+    fn try_from(state: &'a State) -> Result<Formed<'a>, Refusal> {
+        if !is_whole(*state) {
             return Err(Refusal::BadState);
         }
         Ok(Formed { state })

@@ -11,7 +11,7 @@ use tables::table::Table;
 use verdicts::table::priority;
 
 // Clock 0, no last core and every count 0.
-// `Opened` is asked here and is no type of a table: `struct_means` (promises) speaks of calls of `fresh` on a table struct.
+// `Opened` is a clause and no type of a table: `struct_means` (promises) and docs/STATEMENTS.md speak of calls of `fresh` on a table struct.
 pub fn fresh(t: Table) -> State
     requires { Opened t }
     ensures { result ≡ pack (States.fresh (Tables.view t)) }

@@ -21,7 +21,7 @@ fn difference(a: u64, b: u64) -> i64
 pub fn lead(s: State, i: u32) -> Result<i64, Refusal>
     ensures { result ≡ lead_answer (asked s (λ st. ask_lead st i)) }
 {
-    let s = Formed::try_from(s)?.state;
+    let s = Formed::try_from(&s)?.state;
     let t = s.table;
     if is_outside(i, 1, t.n.0) {
         return Err(Refusal::BadTasks);

@@ -4,7 +4,7 @@ use tables::table::Table;
 
 // The table, its order, the clock, and for each task its left work, last core, units done and units dropped; and the totals of
 // moves and misses. What stands past the last task is 0.
-// Lists side by side, and no list of tasks: `struct_means` (promises) speaks of `dropped`, and a run takes each list by itself.
+// Lists side by side, and no list of tasks: `struct_means` (promises) speaks of these fields.
 #[derive(Clone, Copy)]
 pub struct State {
     pub table: Table,

@@ -42,7 +42,7 @@ fn write_reply(out: &mut [u8], answer: Result<Table, Refused>)
 {
     match answer {
         Ok(table) => write_report(out, table),
-        Err(refused) => write_refusal(out, refused.refusal, refused.line),
+        Err(refused) => write_refusal(out, u8::from(refused.refusal), refused.line),
     }
 }
 

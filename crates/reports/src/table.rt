@@ -24,7 +24,7 @@ fn slots_of(t: Table) -> u32
     }
 }
 
-// How many bytes all of the text takes.
+// How many bytes all of the text takes. `Opened` is a clause: see `machine::fresh::fresh`.
 pub fn report_length(t: Table) -> usize
     requires { Opened t }
     ensures { result ≡ report_length (view t) }

@@ -1,3 +1,4 @@
+pub mod Bounds
 pub mod Cases
 pub mod Results
 pub mod Unique

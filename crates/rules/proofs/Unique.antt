@@ -6,6 +6,11 @@ use Rattle.rules.proofs.kinds.TasksKind.new.Reads as tasks
 use Rattle.rules.proofs.kinds.PeriodKind.new.Reads as period
 use Rattle.rules.proofs.kinds.RepeatKind.new.Reads as repeat
 use Rattle.rules.proofs.kinds.SlotKind.new.Reads as slot
+use Rattle.rules.proofs.kinds.CoresKind.of.Reads as of-cores
+use Rattle.rules.proofs.kinds.TasksKind.of.Reads as of-tasks
+use Rattle.rules.proofs.kinds.PeriodKind.of.Reads as of-period
+use Rattle.rules.proofs.kinds.RepeatKind.of.Reads as of-repeat
+use Rattle.rules.proofs.kinds.SlotKind.of.Reads as of-slot
 use Rattle.rules.proofs.refusal.U8FromRefusal.from.Reads as number
 use Rattle.rules.proofs.refusal.Refusal.at.Reads as at
 use Rattle.rules.proofs.refusal.RefusalFromRefused.from.Reads as refusal
@@ -30,6 +35,21 @@ repeat_once κs a x y s t p q = both p q
 
 pub slot_once : One slot.Post (λ κs r s. r)
 slot_once κs a x y s t p q = both p q
+
+pub of_cores_once : One of-cores.Post (λ κs r s. r)
+of_cores_once κs a x y s t p q = both p q
+
+pub of_tasks_once : One of-tasks.Post (λ κs r s. r)
+of_tasks_once κs a x y s t p q = both p q
+
+pub of_period_once : One of-period.Post (λ κs r s. r)
+of_period_once κs a x y s t p q = both p q
+
+pub of_repeat_once : One of-repeat.Post (λ κs r s. r)
+of_repeat_once κs a x y s t p q = both p q
+
+pub of_slot_once : One of-slot.Post (λ κs r s. r)
+of_slot_once κs a x y s t p q = both p q
 
 pub number_once : One number.Post (λ κs r s. r)
 number_once κs a x y s t p q = both p q

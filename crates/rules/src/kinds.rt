@@ -1,6 +1,6 @@
 // Counts of different things are of different types: slots (instants of time) apart from units of execution, task and
-// core numbers apart from both. Each bound stands here once, as a constant of the kind that it bounds, and a number from
-// outside becomes one of these only through the constructor that tests it.
+// core numbers apart from both. Each bound stands here once, as a constant of the kind that it bounds. A number from outside
+// is tested against it by `new`.
 ghost use Rattle.std.specs.Prelude.{◌≡◌, ℕ};
 ghost use Rattle.rules.specs.Limits.{cores_min, cores_max, tasks_min, tasks_max, period_max, repeat_max, clock_max};
 ghost use Rattle.rules.specs.Tables.{outside};
@@ -13,7 +13,8 @@ pub fn is_outside(x: u32, low: u32, high: u32) -> bool
     !(low..=high).contains(&x)
 }
 
-// A kind of number with bounds.
+// A kind of number with bounds. Each has an `impl` of its own, which says its type and its two limits: document 01 names tuple structs, each
+// over its own integer.
 pub trait Kind: Sized {
     ghost MIN: { ℕ };
 
@@ -25,7 +26,7 @@ pub trait Kind: Sized {
 
     const MAX: u32;
 
-    // A number as one of this kind, tested or not.
+    // A number as one of this kind, without a test: `new` calls it.
     fn of(x: u32) -> Self
         ensures { result ≡ of x };
 

@@ -51,9 +51,9 @@ module _ {A : Type 0} (make : ℕ → A) where
 
 -- ---- a well formed struct
 
-module _ (f : Formed) (i : ℕ) (more : i < tasks f.state) where
+module _ (f : Formed) (i : ℕ) (more : i < tasks f.state.now) where
   abbrev s : State
-  s = f.state
+  s = f.state.now
 
   in_table : i + 1 ≤ RuleTables.size (view s).table
   in_table = omega (arith, sizes f)
@@ -96,7 +96,7 @@ pub record Parting (s : State) (c t ranks phase left last done dropped : List �
   pub dones : Copy (λ (x : Units). x.0) s.done zeros done i
   pub drops : Copy (λ (x : Units). x.0) s.dropped zeros dropped i
 
-pub start : (f : Formed) → Parting f.state zeros zeros zeros zeros zeros zeros zeros zeros 0
+pub start : (f : Formed) → Parting f.state.now zeros zeros zeros zeros zeros zeros zeros zeros 0
 start f =
     record {
       full = f.full;

@@ -68,47 +68,47 @@ pub record Columns (n : ℕ) (p : Parts) (st : States.State) : Type 0 where
   pub dropped : Column n p.dropped st.dropped
 
 -- the arrays of a state that was taken apart have a place for each task: `run_formed`'s own attribute names these
-module _ (f : Formed) {p : Parts} (e : p ≡ parts_of (view f.state)) where
-  long_array : {a : List ℕ} (l : List ℕ) → length l ≡ RuleTables.size (view f.state).table → a ≡ plain l → tasks f.state ≤ length a
+module _ (f : Formed) {p : Parts} (e : p ≡ parts_of (view f.state.now)) where
+  long_array : {a : List ℕ} (l : List ℕ) → length l ≡ RuleTables.size (view f.state.now).table → a ≡ plain l → tasks f.state.now ≤ length a
   long_array l size q = rw q (omega (arith, plain_size l size (kept f).taken.tasks_high, f.few))
 
-  pub long_c : tasks f.state ≤ length p.c
+  pub long_c : tasks f.state.now ≤ length p.c
   unfolding parts_of
-  long_c = long_array _ (length-map (view f.state).table.rows _) (ap (λ (x : Parts). x.c) e)
+  long_c = long_array _ (length-map (view f.state.now).table.rows _) (ap (λ (x : Parts). x.c) e)
 
-  pub long_t : tasks f.state ≤ length p.t
+  pub long_t : tasks f.state.now ≤ length p.t
   unfolding parts_of
-  long_t = long_array _ (length-map (view f.state).table.rows _) (ap (λ (x : Parts). x.t) e)
+  long_t = long_array _ (length-map (view f.state.now).table.rows _) (ap (λ (x : Parts). x.t) e)
 
-  pub long_ranks : tasks f.state ≤ length p.ranks
+  pub long_ranks : tasks f.state.now ≤ length p.ranks
   unfolding parts_of
-  long_ranks = long_array _ (ap length (kept f).ranked ∙ order-length (view f.state).table) (ap (λ (x : Parts). x.ranks) e)
+  long_ranks = long_array _ (ap length (kept f).ranked ∙ order-length (view f.state.now).table) (ap (λ (x : Parts). x.ranks) e)
 
-  pub long_phase : tasks f.state ≤ length p.phase
+  pub long_phase : tasks f.state.now ≤ length p.phase
   unfolding parts_of phases_in
-  long_phase = long_array _ (length-each (RuleTables.size (view f.state).table) _) (ap (λ (x : Parts). x.phase) e)
+  long_phase = long_array _ (length-each (RuleTables.size (view f.state.now).table) _) (ap (λ (x : Parts). x.phase) e)
 
-  pub long_left : tasks f.state ≤ length p.left
+  pub long_left : tasks f.state.now ≤ length p.left
   unfolding parts_of
   long_left = long_array _ (kept f).left_length (ap (λ (x : Parts). x.left) e)
 
-  pub long_last : tasks f.state ≤ length p.last
+  pub long_last : tasks f.state.now ≤ length p.last
   unfolding parts_of
   long_last = long_array _ (kept f).last_length (ap (λ (x : Parts). x.last) e)
 
-  pub long_done : tasks f.state ≤ length p.done
+  pub long_done : tasks f.state.now ≤ length p.done
   unfolding parts_of
   long_done = long_array _ (kept f).done_length (ap (λ (x : Parts). x.done) e)
 
-  pub long_dropped : tasks f.state ≤ length p.dropped
+  pub long_dropped : tasks f.state.now ≤ length p.dropped
   unfolding parts_of
   long_dropped = long_array _ (kept f).dropped_length (ap (λ (x : Parts). x.dropped) e)
 
 pub ruleset long_arrays = (length-take, long_c, long_t, long_ranks, long_phase, long_left, long_last, long_done, long_dropped)
 
-module _ (f : Formed) {count : ℕ} {out : List ℕ} (o : Open f.state count out) where
+module _ (f : Formed) {count : ℕ} {out : List ℕ} (o : Open f.state.now count out) where
   abbrev s : State
-  s = f.state
+  s = f.state.now
 
   cores_is : (view s).table.m ≡ s.table.m.0
   unfolding view Tables.view

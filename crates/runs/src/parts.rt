@@ -24,10 +24,10 @@ pub struct Parts {
 }
 
 // Units of a task of a well-formed state are at most what was released of it, which fits 32 bits.
-pub fn apart(formed: &Formed) -> Parts
-    ensures { result ≡ parts_of (view formed.now.state) }
+pub fn apart(formed: Formed) -> Parts
+    ensures { result ≡ parts_of (view formed.entry.state.now) }
 {
-    let s = &formed.state;
+    let s = formed.state;
     let mut c = [0u32; 64];
     let mut t = [0u32; 64];
     let mut ranks = [0u8; 64];
@@ -62,7 +62,8 @@ pub fn apart(formed: &Formed) -> Parts
     }
 }
 
-// The table and its order are those of `s`.
+// The table and its order are those of `s`. The lists come one by one: a run hands `Parts` on as single lists, and to make one of them
+// for this call alone is no plainer.
 pub fn together(
     s: State,
     clock: u32,

@@ -32,11 +32,11 @@ pub fn length_of(count: u32, m: u32) -> usize
 
 // The run itself, of a state that passed the tests, with its frames from the front of `out` on.
 #[tactic(auto, using(crate::proofs::Running::long_arrays))]
-fn run_formed(formed: &Formed, count: u32, out: &mut [u8]) -> State
-    requires { Open formed.now.state count out.old }
-    ensures { RunFormed formed.now.state count out.old result out.new }
+fn run_formed(formed: Formed, count: u32, out: &mut [u8]) -> State
+    requires { Open formed.state.now count out.old }
+    ensures { RunFormed formed.entry.state.now count out.old result out.new }
 {
-    let s = formed.state;
+    let s = *formed.state;
     let table = s.table;
     let n = table.n.0 as usize;
     let m = table.m.0 as usize;
@@ -82,12 +82,12 @@ fn run_formed(formed: &Formed, count: u32, out: &mut [u8]) -> State
 pub fn run(s: State, count: u32, out: &mut [u8], at: usize) -> Result<State, Refusal>
     ensures { run_end result out.new ≡ run_answer s count out.old at }
 {
-    let formed = Formed::try_from(s)?;
+    let formed = Formed::try_from(&s)?;
     if is_past(s.clock.0, count) {
         return Err(Refusal::PastClock);
     }
     room(out.len(), at, length_of(count, s.table.m.0))?;
-    Ok(run_formed(&formed, count, &mut out[at..]))
+    Ok(run_formed(formed, count, &mut out[at..]))
 }
 
 // A run of one slot.

@@ -77,10 +77,10 @@ entries s i =
     ∷ (get_or s.dropped i (units 0)).0
     ∷ []
 
-pub task-entries : (f : Formed) (i : ℕ) → i < tasks f.state → task_of (view f.state) (i + 1) ≡ entries f.state i
+pub task-entries : (f : Formed) (i : ℕ) → i < tasks f.state.now → task_of (view f.state.now) (i + 1) ≡ entries f.state.now i
 unfolding view
 task-entries f i more =
-    let s = f.state in
+    let s = f.state.now in
     let few = f.few in
     rw (
       row_of-view s.table f.full.rows few i more,
@@ -112,26 +112,26 @@ module _ (s : State) where
 -- ---- the whole state
 
 module _ (f : Formed) where
-  length_stored : length (store (view f.state)) ≡ length_of (tasks f.state)
-  length_stored = length-store (view f.state) ∙ ap length_of (sizes f)
+  length_stored : length (store (view f.state.now)) ≡ length_of (tasks f.state.now)
+  length_stored = length-store (view f.state.now) ∙ ap length_of (sizes f)
 
-  pub fixed_numbers : fixed_of (view f.state) ≡ f.state.table.m.0 ∷ f.state.table.n.0 ∷ f.state.clock.0 ∷ f.state.moves ∷ f.state.misses ∷ []
+  pub fixed_numbers : fixed_of (view f.state.now) ≡ f.state.now.table.m.0 ∷ f.state.now.table.n.0 ∷ f.state.now.clock.0 ∷ f.state.now.moves ∷ f.state.now.misses ∷ []
   unfolding view Tables.view
-  fixed_numbers = ap (λ (n : ℕ). f.state.table.m.0 ∷ n ∷ f.state.clock.0 ∷ f.state.moves ∷ f.state.misses ∷ []) (sizes f)
+  fixed_numbers = ap (λ (n : ℕ). f.state.now.table.m.0 ∷ n ∷ f.state.now.clock.0 ∷ f.state.now.moves ∷ f.state.now.misses ∷ []) (sizes f)
 
   -- the fixed part, and the records right after it
-  pub state-written : (out out₁ tail : List ℕ) → length_of (tasks f.state) ≤ length out
-      → out₁ ≡ written fixed_widths (fixed_of (view f.state)) ++ drop 22 out
-      → tail ≡ first_records f.state (tasks f.state) ++ drop (34 * tasks f.state) (mid_of 22 (length out₁ - 22) out₁)
-      → put_mid 22 (length out₁ - 22) out₁ tail ≡ store (view f.state) ++ drop (length_of (tasks f.state)) out
+  pub state-written : (out out₁ tail : List ℕ) → length_of (tasks f.state.now) ≤ length out
+      → out₁ ≡ written fixed_widths (fixed_of (view f.state.now)) ++ drop 22 out
+      → tail ≡ first_records f.state.now (tasks f.state.now) ++ drop (34 * tasks f.state.now) (mid_of 22 (length out₁ - 22) out₁)
+      → put_mid 22 (length out₁ - 22) out₁ tail ≡ store (view f.state.now) ++ drop (length_of (tasks f.state.now)) out
   unfolding store
   state-written out out₁ tail room fixed-is rest-is =
-      let n : ℕ = tasks f.state in
-      let fixed : List ℕ = written fixed_widths (fixed_of (view f.state)) in
-      let rest : List ℕ = first_records f.state n in
-      let records : length rest ≡ 34 * n = length_records (record_of (view f.state)) 34 (λ i. length-written task_widths (task_of (view f.state) i) refl) 1 n in
-      let one = first out fixed 22 (length-written fixed_widths (fixed_of (view f.state)) refl) fixed-is in
-      let whole : fixed ++ rest ≡ store (view f.state) = ap (λ (k : ℕ). fixed ++ first_records f.state k) (sym (sizes f)) in
+      let n : ℕ = tasks f.state.now in
+      let fixed : List ℕ = written fixed_widths (fixed_of (view f.state.now)) in
+      let rest : List ℕ = first_records f.state.now n in
+      let records : length rest ≡ 34 * n = length_records (record_of (view f.state.now)) 34 (λ i. length-written task_widths (task_of (view f.state.now) i) refl) 1 n in
+      let one = first out fixed 22 (length-written fixed_widths (fixed_of (view f.state.now)) refl) fixed-is in
+      let whole : fixed ++ rest ≡ store (view f.state.now) = ap (λ (k : ℕ). fixed ++ first_records f.state.now k) (sym (sizes f)) in
       laid-front out (more out one rest (34 * n) records (omega arith) rest-is) (length_of n) (omega arith)
       ∙ ap (λ (l : List ℕ). l ++ drop (length_of n) out) whole
 
@@ -142,19 +142,19 @@ pub store_ill : (s : State) (out : List ℕ) (place : ℕ) → formed s ≡ fals
 unfolding stored_state store_state
 store_ill s out place e = text_ill s store out place (length (store (view s))) e
 
-module _ (f : Formed) {s : State} (same : f.state ≡ s) (out : List ℕ) (place : ℕ) where
+module _ (f : Formed) {s : State} (same : f.state.now ≡ s) (out : List ℕ) (place : ℕ) where
   -- its bytes are written, where there is room
-  bytes_for : wrote_text out place (store (view f.state)) ≡ stored_state s out place
+  bytes_for : wrote_text out place (store (view f.state.now)) ≡ stored_state s out place
   unfolding stored_state store_state
-  bytes_for = rw (← same) (text_well f.state store out place (length (store (view f.state))) refl f.good)
+  bytes_for = rw (← same) (text_well f.state.now store out place (length (store (view f.state.now))) refl f.good)
 
   -- they have no room
   pub store_short : {r : Refusal} → room_reply (length out) place (length_of (tasks s)) ≡ Err r → made (Err r) out ≡ stored_state s out place
-  store_short e = text_short out place (store (view f.state)) (length_of (tasks s)) (rw (← same) (length_stored f)) e ∙ bytes_for
+  store_short e = text_short out place (store (view f.state.now)) (length_of (tasks s)) (rw (← same) (length_stored f)) e ∙ bytes_for
 
   -- they have, and were written through the lent tail
   pub store-written : {u : Unit {0}} → room_reply (length out) place (length_of (tasks s)) ≡ Ok u → (tail : List ℕ)
-      → tail ≡ store (view f.state) ++ drop (length_of (tasks f.state)) (mid_of place (length out - place) out)
+      → tail ≡ store (view f.state.now) ++ drop (length_of (tasks f.state.now)) (mid_of place (length out - place) out)
       → made (Ok (length_of (tasks s))) (put_mid place (length out - place) out tail) ≡ stored_state s out place
   store-written room tail e =
-      text-written out place (store (view f.state)) (length_of (tasks s)) (rw (← same) (length_stored f)) room tail (rw (← same) e) ∙ bytes_for
+      text-written out place (store (view f.state.now)) (length_of (tasks s)) (rw (← same) (length_stored f)) room tail (rw (← same) e) ∙ bytes_for

@@ -71,6 +71,7 @@ impl Stored<'_> {
         )
     }
 
+    // This and the three around it are each one call of `each_task`: the type, the blank entry and the place are what they differ in.
     fn ranks(&self) -> [TaskNumber; 64]
         ensures { result ≡ packed task_number (each self.now.n (cell self.now.bytes.now 30 1)) }
     {

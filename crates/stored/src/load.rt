@@ -25,5 +25,6 @@ pub fn load(bytes: &[u8]) -> Result<State, Refusal>
         return Err(Refusal::BadState);
     }
     let stored = Stored { bytes, n };
-    Ok(Formed::try_from(stored.state())?.state)
+    let state = stored.state();
+    Ok(*Formed::try_from(&state)?.state)
 }

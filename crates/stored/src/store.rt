@@ -14,11 +14,11 @@ use rules::refusal::Refusal;
 use rules::room::room;
 
 // The fixed part at the front of the lent part; nothing after it differs.
-fn write_fixed(out: &mut [u8], formed: &Formed)
+fn write_fixed(out: &mut [u8], formed: Formed)
     requires { 22 ≤ length out.old }
-    ensures { out.new ≡ written fixed_widths (fixed_of (view formed.now.state)) ++ drop 22 out.old }
+    ensures { out.new ≡ written fixed_widths (fixed_of (view formed.entry.state.now)) ++ drop 22 out.old }
 {
-    let s = &formed.state;
+    let s = formed.state;
     write_bytes(out, 0, 1, u64::from(s.table.m.0));
     write_bytes(out, 1, 1, u64::from(s.table.n.0));
     write_bytes(out, 2, 4, u64::from(s.clock.0));
@@ -27,12 +27,12 @@ fn write_fixed(out: &mut [u8], formed: &Formed)
 }
 
 // The record of the task at index i at the front of the lent part; nothing after it differs.
-fn write_task(out: &mut [u8], formed: &Formed, i: usize)
+fn write_task(out: &mut [u8], formed: Formed, i: usize)
     requires room { 34 ≤ length out.old }
-    requires among { i < tasks formed.now.state }
-    ensures { out.new ≡ record_of (view formed.now.state) (i + 1) ++ drop 34 out.old }
+    requires among { i < tasks formed.state.now }
+    ensures { out.new ≡ record_of (view formed.entry.state.now) (i + 1) ++ drop 34 out.old }
 {
-    let s = &formed.state;
+    let s = formed.state;
     let row = s.table.rows[i];
     write_bytes(out, 0, 4, u64::from(row.c));
     write_bytes(out, 4, 4, u64::from(row.t));
@@ -44,9 +44,9 @@ fn write_task(out: &mut [u8], formed: &Formed, i: usize)
 }
 
 // The records of all tasks, one right after the other.
-fn write_tasks(out: &mut [u8], formed: &Formed)
-    requires { 34 * tasks formed.now.state ≤ length out.old }
-    ensures { out.new ≡ join (map (record_of (view formed.now.state)) (numbers (tasks formed.now.state))) ++ drop (34 * tasks formed.now.state) out.old }
+fn write_tasks(out: &mut [u8], formed: Formed)
+    requires { 34 * tasks formed.state.now ≤ length out.old }
+    ensures { out.new ≡ join (map (record_of (view formed.entry.state.now)) (numbers (tasks formed.entry.state.now))) ++ drop (34 * tasks formed.entry.state.now) out.old }
 {
     for i in 0..formed.state.table.n.0 as usize {
         write_task(&mut out[RECORD * i..], formed, i);
@@ -54,9 +54,9 @@ fn write_tasks(out: &mut [u8], formed: &Formed)
 }
 
 // The bytes of a state at the front of the lent part; nothing after them differs.
-fn write_state(out: &mut [u8], formed: &Formed)
-    requires { length_of (tasks formed.now.state) ≤ length out.old }
-    ensures { out.new ≡ stored (view formed.now.state) ++ drop (length_of (tasks formed.now.state)) out.old }
+fn write_state(out: &mut [u8], formed: Formed)
+    requires { length_of (tasks formed.state.now) ≤ length out.old }
+    ensures { out.new ≡ stored (view formed.entry.state.now) ++ drop (length_of (tasks formed.entry.state.now)) out.old }
 {
     write_fixed(out, formed);
     write_tasks(&mut out[FIXED..], formed);
@@ -67,9 +67,9 @@ fn write_state(out: &mut [u8], formed: &Formed)
 pub fn store(s: State, out: &mut [u8], at: usize) -> Result<usize, Refusal>
     ensures { made result out.new ≡ stored_state s out.old at }
 {
-    let formed = Formed::try_from(s)?;
+    let formed = Formed::try_from(&s)?;
     let size = FIXED + RECORD * (s.table.n.0 as usize);
     room(out.len(), at, size)?;
-    write_state(&mut out[at..], &formed);
+    write_state(&mut out[at..], formed);
     Ok(size)
 }

@@ -1,7 +1,7 @@
 -- Reading the frame of two numbers, test by test: each test that fails ends it, and where none does it gives both numbers.
 use Prim.Native.Nat.{ℕ, suc, ◌+◌, ◌^◌, ◌≤◌, ◌<◌}
 use mathlib.Core.Path.{◌≡◌, refl, sym, ap, ◌∙◌}
-use mathlib.Core.List.{List, [], ◌∷◌, ◌++◌, append_assoc, append-nil}
+use mathlib.Core.List.{List, [], ◌∷◌}
 use mathlib.Core.Option.{Option, none, some}
 use native.Mathlib.Nat.{lt_of_lt_of_le, pow-le-pow_right}
 use native.Mathlib.Omega.{arith}
@@ -9,10 +9,10 @@ use lib.Dec.{leb, lit<}
 use lib.ListN.{length, get_or, take, drop, length-append, length-take, length-drop}
 use lib.Seq.{drop-drop, drop-cons, drop_at}
 use borrow.Author.Tests.{le-leb, eq-eqb, ne_eqb}
-use Rattle.laws.specs.Digits.{value, field}
+use Rattle.laws.specs.Digits.{value}
 use Rattle.laws.proofs.Tests.{cond_same}
 use Rattle.laws.proofs.Digits.{value_some}
-use Rattle.rules.specs.Frames.{Read, line_feed, fields, frame, read_field, read_fields, read_end, read_frame}
+use Rattle.rules.specs.Frames.{Read, line_feed, frame, read_field, read_fields, read_end, read_frame}
 use Rattle.reading_laws.specs.Frames.{Fits, Begins}
 use Rattle.reading_laws.proofs.Frames.{read_none, frame-read, length-frame}
 use Rattle.tables.specs.Pairs.{pair_shape}
@@ -107,11 +107,6 @@ module _ (s : List ℕ) (kind w : ℕ) (long : 2 + w + w < length s) where
               (rw (drop-cons s (2 + w + w) 0 long, eq-eqb (get_or s (2 + w + w) 0) line_feed e))))
 
 -- ---- written
-
--- the three fields and the line feed
-pub frame_parts : (kind w a b : ℕ) → frame (pair_shape kind w) (a ∷ b ∷ []) ≡ field 2 kind ++ field w a ++ field w b ++ (line_feed ∷ [])
-unfolding frame fields
-frame_parts kind w a b = simp (append_assoc, append-nil)
 
 -- how long the line is
 pub length_pair : (kind w a b : ℕ) → length (frame (pair_shape kind w) (a ∷ b ∷ [])) ≡ 2 + w + w + 1

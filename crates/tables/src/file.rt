@@ -16,9 +16,13 @@ fn read_rows(s: &[u8], n: usize) -> Result<[Row; 64], Refused>
 {
     let mut rows = NO_ROWS;
     let mut at: usize = 0;
-    // By index: it gives the row's place and its line.
+    // By index: it gives the row's place and its line. Each row begins where the one before it ends.
     for i in 0..n {
-        rows[i] = row::read_row(&s[at..], i as u32 + 2)?;
+        let line = i as u32 + 2;
+        let Some((c, t)) = frame::ROW.read(&s[at..]) else {
+            return Err(Refusal::BadLine.at(line));
+        };
+        rows[i] = row::test_row(c, t, line)?;
         at += frame::ROW.bytes();
     }
     Ok(rows)

@@ -4,6 +4,7 @@ ghost use Rattle.rules.specs.Frames.{type_number, frame, read_frame};
 ghost use Rattle.rules.specs.Results.{option};
 ghost use Rattle.tables.specs.Pairs.{pair_shape, pair_bytes, two_of};
 
+use frames::fields::write_fields;
 use rules::frame_type::FrameType;
 
 const LINE_FEED: u8 = b'\n';
@@ -58,11 +59,10 @@ impl PairFrame {
         requires { pair_bytes self.width ≤ length out.old }
         ensures { out.new ≡ frame (pair_shape (type_number self.kind) self.width) (a ∷ b ∷ []) ++ drop (pair_bytes self.width) out.old }
     {
-        let second = 2 + self.width;
-        let feed = second + self.width;
-        digits::write_field(out, 0, 2, u64::from(u8::from(self.kind)));
-        digits::write_field(out, 2, self.width, u64::from(a));
-        digits::write_field(out, second, self.width, u64::from(b));
-        out[feed] = LINE_FEED;
+        write_fields(
+            out,
+            self.kind,
+            &[(self.width, u64::from(a)), (self.width, u64::from(b))],
+        );
     }
 }

@@ -16,7 +16,7 @@ fn test_rows(list: &[[u32; 2]]) -> Result<[Row; 64], Refused>
     ensures { result ≡ rows_answer (test_rows (list_rows list.now)) }
 {
     let mut rows = NO_ROWS;
-    // By index: of places that `iter_mut` lends beside another list, nothing is known once they come back.
+    // By index: the prover knows nothing of what `iter_mut` changed in a loop over two lists.
     for (i, &[c, t]) in list.iter().enumerate() {
         rows[i] = row::test_row(c, t, 0)?;
     }

@@ -20,7 +20,7 @@ pub struct Table {
     pub rows: [Row; 64],
 }
 
-// The table with no core and no task.
+// The table with no core and no task. Nothing here calls it: docs/STATEMENTS.md names it.
 #[tactic(auto, unfolding(crate::specs::Views::no_table, crate::specs::Views::pack, crate::specs::Views::pack_rows))]
 pub fn empty() -> Table
     ensures { result ≡ no_table }

@@ -1,5 +1,6 @@
 // What the analysis says of a table: which tasks are heavy, whether it is admitted, and the priority order.
 // A table is lent as m and its rows, one a task in table order.
+// Counts of at most 64 are narrowed by `as`: a `try_from` would bring a refusal that never comes.
 #![tactic(auto)]
 
 pub mod limit;

@@ -3,6 +3,7 @@ ghost use Rattle.std.specs.Prelude.{◌≡◌, ◌++◌, ◌+◌, ◌*◌, ◌�
 ghost use Rattle.rules.specs.Runs.{order_line};
 ghost use Rattle.verdicts.specs.Lines.{verdict_frame};
 
+use frames::fields::write_fields;
 use frames::start::write_type;
 use rules::frame_type::FrameType;
 use rules::verdict::Verdict;
@@ -12,11 +13,15 @@ pub fn write_verdict(out: &mut [u8], v: Verdict, heavy: u32, h: u32)
     requires { 15 ≤ length out.old }
     ensures { out.new ≡ verdict_frame v heavy h ++ drop 15 out.old }
 {
-    write_type(out, FrameType::Verdict);
-    digits::write_field(out, 2, 2, u64::from(u8::from(v)));
-    digits::write_field(out, 4, 2, u64::from(heavy));
-    digits::write_field(out, 6, 8, u64::from(h));
-    out[14] = 10;
+    write_fields(
+        out,
+        FrameType::Verdict,
+        &[
+            (2, u64::from(u8::from(v))),
+            (2, u64::from(heavy)),
+            (8, u64::from(h)),
+        ],
+    );
 }
 
 // Frame `12`: the task numbers, highest priority first.
@@ -27,5 +32,5 @@ pub fn write_order(out: &mut [u8], ranks: &[u8])
     let feed = 2 + 2 * ranks.len();
     write_type(out, FrameType::Order);
     frames::pairs::write_pairs(&mut out[2..], ranks);
-    out[feed] = 10;
+    out[feed] = b'\n';
 }

@@ -50,6 +50,5 @@ pub fn count_heavy(m: u32, rows: &[Row]) -> u32
     ensures { result ≡ heavy_count (table_of m rows.now) }
 {
     let f = Fraction::of(m);
-    // `as`, since a `u32` is made of a `usize` by `try_from` alone, whose refusal never comes.
     rows.iter().filter(|row| is_heavy(f, **row)).count() as u32
 }

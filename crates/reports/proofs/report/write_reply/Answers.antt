@@ -23,4 +23,4 @@ pub returns-in-Ok : goal.returns-in-Ok
 returns-in-Ok c = c.write_report.ensures ∙ taken-written c.requires.answered c.in-Ok.is c.args.out.now
 
 pub returns-in-Err : goal.returns-in-Err
-returns-in-Err c = refused-written c.requires.answered c.in-Err.is c.args.out.now c.write_refusal.ensures (omega arith)
+returns-in-Err c = refused-written c.requires.answered c.in-Err.is c.args.out.now (rw c.from.ensures at c.write_refusal.ensures) (omega arith)

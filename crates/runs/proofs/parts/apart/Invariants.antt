@@ -3,4 +3,4 @@ use Rattle.runs.proofs.Parting.{Parting}
 use Rattle.runs.proofs.parts.apart.Given as goal
 
 abbrev pub invariant-loop-i : goal.invariant-loop-i
-invariant-loop-i l = Parting l.fn.formed.state l.c l.t l.ranks l.phase l.left l.last l.done l.dropped l.i
+invariant-loop-i l = Parting l.fn.formed.state.now l.c l.t l.ranks l.phase l.left l.last l.done l.dropped l.i

@@ -21,9 +21,9 @@ invariant_of-stored-clause-said c = counted _ c.if-bytes-lt-FIXED.false _ c.from
 pub returns-in_err-try_from : goal.returns-in_err-try_from
 returns-in_err-try_from c =
     let told = failed _ c.try_from.ensures c.in_err-try_from.was c.from_residual.ensures.1 in
-    told.0 ∙ ill_formed _ c.if-bytes-lt-FIXED.false _ c.from-n.ensures c.if-bytes-n.false c.if-n.false c.state.ensures told.1
+    told.0 ∙ ill_formed _ c.if-bytes-lt-FIXED.false _ c.from-n.ensures c.if-bytes-n.false c.if-n.false c.state-state.ensures told.1
 
 pub returns : goal.returns
 returns c =
     ap Ok (passed _ c.try_from.ensures c.in_ok-try_from.was)
-    ∙ well_formed_lem _ c.if-bytes-lt-FIXED.false _ c.from-n.ensures c.if-bytes-n.false c.if-n.false c.state.ensures (well _ c.try_from.ensures c.in_ok-try_from.was)
+    ∙ well_formed_lem _ c.if-bytes-lt-FIXED.false _ c.from-n.ensures c.if-bytes-n.false c.if-n.false c.state-state.ensures (well _ c.try_from.ensures c.in_ok-try_from.was)

@@ -13,5 +13,5 @@ returns c =
     let three = next_field out two 2 refl 4 _ (omega arith) c.write_bytes-3.ensures in
     let four = next_field out three 6 refl 8 _ (omega arith) c.write_bytes-4.ensures in
     let five = next_field out four 14 refl 8 _ (omega arith) c.write_bytes-5.ensures in
-    rw (fixed_numbers c.args.formed.now, ← c.from.ensures, ← c.from-2.ensures, ← c.from-3.ensures)
+    rw (fixed_numbers c.args.formed, ← c.from.ensures, ← c.from-2.ensures, ← c.from-3.ensures)
     (all-fields out five 22 refl)

@@ -4,4 +4,4 @@ use Rattle.stored.proofs.store.write_state.Goals as goal
 
 pub returns : goal.returns
 returns c =
-    state-written c.args.formed.now c.args.out.now _ _ c.requires c.write_fixed.ensures c.write_tasks.ensures
+    state-written c.args.formed c.args.out.now _ _ c.requires c.write_fixed.ensures c.write_tasks.ensures

@@ -15,5 +15,5 @@ returns c =
     let five = next_field out four 10 refl 8 _ (omega arith) c.write_bytes-5.ensures in
     let six = next_field out five 18 refl 8 _ (omega arith) c.write_bytes-6.ensures in
     let seven = next_field out six 26 refl 8 _ (omega arith) c.write_bytes-7.ensures in
-    rw (task-entries c.args.formed.now c.args.i c.requires.among, ← c.from.ensures, ← c.from-2.ensures, ← c.from-3.ensures, ← c.from-4.ensures)
+    rw (task-entries c.args.formed c.args.i c.requires.among, ← c.from.ensures, ← c.from-2.ensures, ← c.from-3.ensures, ← c.from-4.ensures)
     (all-fields out seven 34 refl)

@@ -6,4 +6,4 @@ use Rattle.stored.proofs.Storing.{first_records}
 use Rattle.stored.proofs.store.write_tasks.Given as goal
 
 abbrev pub invariant-loop-i : goal.invariant-loop-i
-invariant-loop-i l = Pieces (first_records l.fn.formed.state) 34 (tasks l.fn.formed.state) l.initial.out l.out (34 * l.i) l.i
+invariant-loop-i l = Pieces (first_records l.fn.formed.state.now) 34 (tasks l.fn.formed.state.now) l.initial.out l.out (34 * l.i) l.i

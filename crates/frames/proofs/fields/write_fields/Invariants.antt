@@ -1,0 +1,7 @@
+-- `frames::fields::write_fields` meets its contract: a walk along the fields that lays each after those before it.
+use Rattle.rules.specs.Frames.{type_number}
+use Rattle.frames.proofs.FieldLoop.{Going}
+use Rattle.frames.proofs.fields.write_fields.Given as goal
+
+abbrev pub invariant-loop-width : goal.invariant-loop-width
+invariant-loop-width l = Going l.fn.out (type_number l.fn.t) l.fields l.out l.at l.width-index
