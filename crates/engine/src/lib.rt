@@ -6,6 +6,7 @@
 
 mod choose;
 pub mod columns;
+pub mod counts;
 mod end;
 mod place;
 pub mod release;

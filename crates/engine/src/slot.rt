@@ -5,18 +5,13 @@ ghost use Rattle.engine.specs.Step.{stepped, step_on, Ready};
 
 use crate::choose::choose;
 use crate::columns::Columns;
+use crate::counts::Counts;
 use crate::end::end;
 use crate::place::place;
 
-// The moves in a slot and the misses at its end.
-#[derive(Clone, Copy)]
-pub struct SlotCounts {
-    pub moves: u32,
-    pub misses: u32,
-}
-
 // `phase` has the slots since each task's last release. The jobs of the slot are released in `left` before it, and those of the next
 // slot after it. No core holds a task before it; the placing is put into `cores`.
+// The moves in the slot and the misses at its end are returned.
 pub fn slot(
     columns: Columns<'_>,
     phase: &mut [u32],
@@ -25,7 +20,7 @@ pub fn slot(
     done: &mut [u32],
     dropped: &mut [u32],
     cores: &mut [u8],
-) -> SlotCounts
+) -> Counts<u32>
     requires { Ready (length cores.old) columns.c.now columns.t.now columns.ranks.now phase.old left.old last.old done.old dropped.old × Idle cores.old }
     ensures { stepped phase.new left.new last.new done.new dropped.new cores.new result.moves result.misses ≡ step_on (length cores.old) columns.entry.c.now columns.entry.t.now columns.entry.ranks.now phase.old left.old last.old done.old dropped.old }
 {
@@ -34,5 +29,5 @@ pub fn slot(
     let k = choose(columns.ranks, left, &mut chosen[..m]);
     let moves = place(&chosen[..k], last, cores, left, done);
     let misses = end(columns, phase, left, dropped);
-    SlotCounts { moves, misses }
+    Counts { moves, misses }
 }

@@ -4,7 +4,7 @@ ghost use Rattle.rules.specs.Limits.{tasks_max};
 ghost use Rattle.machine.specs.Views.{view};
 ghost use Rattle.runs.specs.Parts.{parts_of, joined};
 
-use crate::slots::Totals;
+use engine::counts::Counts;
 use machine::formed::Formed;
 use machine::state::State;
 use rules::kinds::{CoreNumber, Slot, Units};
@@ -71,7 +71,7 @@ pub fn together(
     last: [u8; 64],
     done: [u32; 64],
     dropped: [u32; 64],
-    totals: Totals,
+    totals: Counts<u64>,
 ) -> State
     requires { s.table.n.0 ≤ tasks_max }
     ensures { result ≡ joined s clock left last done dropped totals.moves totals.misses }

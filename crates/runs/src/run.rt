@@ -6,8 +6,9 @@ ghost use Rattle.runs.specs.Slots.{frame_length};
 ghost use Rattle.runs.specs.Answers.{Open, RunFormed, run_end, run_answer};
 
 use crate::parts::{Parts, apart, together};
-use crate::slots::{Totals, frame_length, run_slots};
+use crate::slots::{frame_length, run_slots};
 use engine::columns::Columns;
+use engine::counts::Counts;
 use machine::formed::Formed;
 use machine::state::State;
 use rules::kinds::{Kind, Slot};
@@ -51,7 +52,7 @@ fn run_formed(formed: Formed, count: u32, out: &mut [u8]) -> State
         mut done,
         mut dropped,
     } = apart(formed);
-    let before = Totals {
+    let before = Counts {
         moves: s.moves,
         misses: s.misses,
     };

@@ -4,17 +4,11 @@ ghost use Rattle.rules.specs.Limits.{cores_max};
 ghost use Rattle.runs.specs.Slots.{state_of, frame_length, Runnable, RanSlots};
 
 use engine::columns::Columns;
+use engine::counts::Counts;
 use engine::release::release;
 use engine::slot::slot;
 use frames::names::Names;
 use frames::slot::write_slot;
-
-// The total moves and misses.
-#[derive(Clone, Copy)]
-pub struct Totals {
-    pub moves: u64,
-    pub misses: u64,
-}
 
 // How many bytes the frame of a slot of m cores takes.
 pub fn frame_length(m: usize) -> usize
@@ -29,7 +23,7 @@ pub fn frame_length(m: usize) -> usize
 pub fn run_slots(
     clock: u32,
     count: u32,
-    totals: Totals,
+    totals: Counts<u64>,
     m: usize,
     columns: Columns<'_>,
     phase: &mut [u32],
@@ -38,7 +32,7 @@ pub fn run_slots(
     done: &mut [u32],
     dropped: &mut [u32],
     out: &mut [u8],
-) -> Totals
+) -> Counts<u64>
     requires { Runnable (state_of m clock columns.c.now columns.t.now columns.ranks.now left.old last.old done.old dropped.old totals.moves totals.misses) count columns.c.now columns.t.now phase.old out.old }
     ensures { RanSlots (state_of m clock columns.entry.c.now columns.entry.t.now columns.entry.ranks.now left.old last.old done.old dropped.old totals.moves totals.misses) count out.old (state_of m (clock + count) columns.entry.c.now columns.entry.t.now columns.entry.ranks.now left.new last.new done.new dropped.new result.moves result.misses) phase.new out.new }
 {
@@ -67,5 +61,5 @@ pub fn run_slots(
     }
     // The last slot's end has released the jobs of the next. Their tasks have ended their jobs before, so no units are left.
     release(left, phase, &none[..n]);
-    Totals { moves, misses }
+    Counts { moves, misses }
 }

@@ -6,7 +6,8 @@ use mathlib.Core.Bool.{false}
 use mathlib.Core.List.{List, [], ◌∷◌, ◌++◌, map, append_assoc, append-nil}
 use native.Mathlib.Omega.{arith}
 use borrow.Rule.Slice.PartMut.{mid_of, put_mid}
-use lib.ListN.{length, get_or, drop, length-append}
+use lib.ListN.{length, get_or, drop, drop_of_length-le}
+use Rattle.std.proofs.lemmas.List.{drop_more}
 use Rattle.laws.specs.Lists.{sum, join, numbers}
 use Rattle.laws.proofs.Filling.{numbers_more}
 use Rattle.laws.proofs.Joins.{join_last}
@@ -17,7 +18,7 @@ use Rattle.rules.specs.declared.refusal.Refusal.TheVariants.{BadState}
 use Rattle.tables.specs.Views as Tables
 use Rattle.tables.specs.Writes.{made, wrote_text}
 use Rattle.tables.proofs.Written.{text_short, text-written}
-use Rattle.reading_laws.proofs.Laying.{Laid, nothing, put, first, more, ends_at, laid-front, Pieces, next_piece}
+use Rattle.reading_laws.proofs.Laying.{Laid, nothing, put, first, more, laid-front, Pieces, next_piece}
 use Rattle.machine.specs.Views.{tasks, task_number, core_number, units, view, formed}
 use Rattle.machine.specs.declared.state.State.{State}
 use Rattle.machine.specs.declared.formed.Formed.{Formed}
@@ -32,36 +33,47 @@ use Rattle.stored.proofs.Round.{length-store}
 
 -- ---- fields, one right after the other
 
--- one field more
-written_snoc : (ws vs : List ℕ) (w v : ℕ) → length vs ≡ length ws → written (ws ++ (w ∷ [])) (vs ++ (v ∷ [])) ≡ written ws vs ++ bytes_of w v
-unfolding written
-written_snoc [] [] w v e = append-nil (bytes_of w v)
-written_snoc [] (u ∷ vs) w v e = absurd (omega arith)
-written_snoc (x ∷ ws) [] w v e = absurd (omega arith)
-written_snoc (x ∷ ws) (u ∷ vs) w v e = rw (written_snoc ws vs w v (omega arith)) (sym (append_assoc (bytes_of x u) (written ws vs) (bytes_of w v)))
+-- the bytes of numbers, of each its width and its number
+abbrev shown : List (ℕ × ℕ) → List ℕ
+shown fs = written (map (λ f. f.0) fs) (map (λ f. f.1) fs)
 
--- so far these fields stand at the front of the lent part
-pub record Fields (out ws vs now : List ℕ) : Type 0 where
-  pub paired : length vs ≡ length ws
-  pub laid : Laid out (written ws vs) now (sum ws)
+abbrev wide : List (ℕ × ℕ) → ℕ
+wide fs = sum (map (λ f. f.0) fs)
 
-module _ (out : List ℕ) where
-  pub no_field : Fields out [] [] out
-  unfolding written
-  no_field = record { paired = refl; laid = nothing out }
+-- so far the first i fields stand at the front of the lent part
+pub record Fields (out : List ℕ) (fs : List (ℕ × ℕ)) (now : List ℕ) (end i : ℕ) : Type 0 where
+  pub text : List ℕ
+  pub laid : Laid out text now end
+  pub whole : text ++ shown (drop i fs) ≡ shown fs
+  pub long : end + wide (drop i fs) ≡ wide fs
 
-  module _ {ws vs now : List ℕ} (so_far : Fields out ws vs now) (end : ℕ) (ends : sum ws ≡ end) where
-    pub next_field : (w v : ℕ) {now' : List ℕ} → end + w ≤ length out → now' ≡ lay now end (bytes_of w v) → Fields out (ws ++ (w ∷ [])) (vs ++ (v ∷ [])) now'
-    next_field w v room e =
-        let paired : length (vs ++ (v ∷ [])) ≡ length (ws ++ (w ∷ [])) = length-append vs (v ∷ []) ∙ omega (arith, so_far.paired, length-append ws (w ∷ [])) in
-        let next = put out (ends_at out so_far.laid end ends) (bytes_of w v) w (length-bytes_of w v) room e in
+module _ (out : List ℕ) (fs : List (ℕ × ℕ)) where
+  pub no_field : Fields out fs out 0 0
+  no_field = record { text = []; laid = nothing out; whole = refl; long = omega arith }
+
+  module _ (room : wide fs ≤ length out) {now : List ℕ} {end i : ℕ} (g : Fields out fs now end i) where
+    pub next_field : {now' : List ℕ} → i < length fs → now' ≡ lay now end (bytes_of (get_or fs i (0, 0)).0 (get_or fs i (0, 0)).1)
+        → Fields out fs now' (end + (get_or fs i (0, 0)).0) (i + 1)
+    unfolding written
+    next_field more e =
+        let f = get_or fs i (0, 0) in
+        let next : drop i fs ≡ f ∷ drop (i + 1) fs = drop_more fs i (0, 0) more in
+        let width : wide (drop i fs) ≡ f.0 + wide (drop (i + 1) fs) = ap wide next in
+        let line : shown (drop i fs) ≡ bytes_of f.0 f.1 ++ shown (drop (i + 1) fs) = ap shown next in
         record {
-          paired = paired;
-          laid = record { whole = next.whole ∙ ap (lay out 0) (sym (written_snoc ws vs w v so_far.paired)); ends = length-written (ws ++ (w ∷ [])) (vs ++ (v ∷ [])) paired };
+          text = g.text ++ bytes_of f.0 f.1;
+          laid = put out g.laid (bytes_of f.0 f.1) f.0 (length-bytes_of f.0 f.1) (omega (arith, width, g.long, room)) e;
+          whole = append_assoc g.text (bytes_of f.0 f.1) (shown (drop (i + 1) fs)) ∙ ap (λ (l : List ℕ). g.text ++ l) (sym line) ∙ g.whole;
+          long = omega (arith, width, g.long);
         }
 
-    pub all-fields : now ≡ written ws vs ++ drop end out
-    all-fields = laid-front out so_far.laid end ends
+    pub all-fields : length fs ≤ i → now ≡ shown fs ++ drop (wide fs) out
+    unfolding written
+    all-fields h =
+        let none : drop i fs ≡ [] = drop_of_length-le fs {i = i} h in
+        let text : g.text ≡ shown fs = sym (append-nil g.text) ∙ sym (ap (λ (l : List (ℕ × ℕ)). g.text ++ shown l) none) ∙ g.whole in
+        let last : wide (drop i fs) ≡ 0 = ap wide none in
+        laid-front out g.laid (wide fs) (omega (arith, last, g.long)) ∙ ap (λ (t : List ℕ). t ++ drop (wide fs) out) text
 
 -- ---- the record of a task
 

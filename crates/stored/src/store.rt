@@ -6,7 +6,7 @@ ghost use Rattle.machine.specs.Views.{tasks, view};
 ghost use Rattle.stored.specs.Layout.{written, fixed_widths, fixed_of, length_of, record_of, store as stored};
 ghost use Rattle.stored.specs.Answers.{stored_state};
 
-use crate::bytes::write_bytes;
+use crate::bytes::write_numbers;
 use crate::{FIXED, RECORD};
 use machine::formed::Formed;
 use machine::state::State;
@@ -19,11 +19,16 @@ fn write_fixed(out: &mut [u8], formed: Formed)
     ensures { out.new ≡ written fixed_widths (fixed_of (view formed.entry.state.now)) ++ drop 22 out.old }
 {
     let s = formed.state;
-    write_bytes(out, 0, 1, u64::from(s.table.m.0));
-    write_bytes(out, 1, 1, u64::from(s.table.n.0));
-    write_bytes(out, 2, 4, u64::from(s.clock.0));
-    write_bytes(out, 6, 8, s.moves);
-    write_bytes(out, 14, 8, s.misses);
+    write_numbers(
+        out,
+        &[
+            (1, u64::from(s.table.m.0)),
+            (1, u64::from(s.table.n.0)),
+            (4, u64::from(s.clock.0)),
+            (8, s.moves),
+            (8, s.misses),
+        ],
+    );
 }
 
 // The record of the task at index i at the front of the lent part; nothing after it differs.
@@ -34,13 +39,18 @@ fn write_task(out: &mut [u8], formed: Formed, i: usize)
 {
     let s = formed.state;
     let row = s.table.rows[i];
-    write_bytes(out, 0, 4, u64::from(row.c));
-    write_bytes(out, 4, 4, u64::from(row.t));
-    write_bytes(out, 8, 1, u64::from(s.ranks[i].0));
-    write_bytes(out, 9, 1, u64::from(s.last[i].0));
-    write_bytes(out, 10, 8, s.left[i].0);
-    write_bytes(out, 18, 8, s.done[i].0);
-    write_bytes(out, 26, 8, s.dropped[i].0);
+    write_numbers(
+        out,
+        &[
+            (4, u64::from(row.c)),
+            (4, u64::from(row.t)),
+            (1, u64::from(s.ranks[i].0)),
+            (1, u64::from(s.last[i].0)),
+            (8, s.left[i].0),
+            (8, s.done[i].0),
+            (8, s.dropped[i].0),
+        ],
+    );
 }
 
 // The records of all tasks, one right after the other.

@@ -1,4 +1,4 @@
-pub mod Rows
+pub mod Lent
 pub mod Products
 pub mod Counting
 pub mod Summing

@@ -36,7 +36,7 @@ is_admitted_once κs a x y s t p q = both p q
 pub judge_once : One judge.Post (λ κs r s. r)
 judge_once κs a x y s t p q = both p q
 
-pub order_once : One order.Post (λ κs r s. s.1.1.0.now)
+pub order_once : One order.Post (λ κs r s. s.1.0.now)
 order_once κs a x y s t p q = both p q
 
 pub write_verdict_once : One write-verdict.Post (λ κs r s. s.0.now)

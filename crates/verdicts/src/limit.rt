@@ -1,11 +1,13 @@
 // Whether a table is admitted: its shares sum to at most m times the fraction, in whole numbers scaled by H.
 ghost use Rattle.std.specs.Prelude.{◌≡◌, map, ◌*◌, ◌≤◌, leb};
 ghost use Rattle.laws.specs.Lists.{sum as total};
+ghost use Rattle.rules.specs.Repeat.{repeat_length};
 ghost use Rattle.rules.specs.Verdicts.{fraction, share as share_of, verdict};
 ghost use Rattle.tables.specs.Views.{view_row};
 ghost use Rattle.verdicts.specs.Limit.{Weighed};
-ghost use Rattle.verdicts.specs.Rows.{table_of, Repeating, Sharing};
+ghost use Rattle.verdicts.specs.Rows.{table_of, Sharing};
 
+use crate::rows::Rows;
 use crate::share::{Fraction, times};
 use rules::verdict::Verdict;
 use tables::table::Row;
@@ -36,11 +38,11 @@ pub fn is_admitted(m: u32, h: u32, sum: u64) -> bool
 }
 
 // The verdict, from the repeat length h.
-pub fn judge(m: u32, h: u32, rows: &[Row]) -> Verdict
-    requires { Repeating m h rows.now }
-    ensures { result ≡ verdict (table_of m rows.now) }
+pub fn judge(table: &Rows<'_>, h: u32) -> Verdict
+    requires { h ≡ repeat_length (map view_row table.now.rows.now) }
+    ensures { result ≡ verdict (table_of table.now.m table.now.rows.now) }
 {
-    if is_admitted(m, h, scaled_sum(h, rows)) {
+    if is_admitted(table.m, h, scaled_sum(h, table.rows)) {
         Verdict::Admitted
     } else {
         Verdict::NotAdmitted

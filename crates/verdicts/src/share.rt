@@ -1,12 +1,13 @@
 // Which tasks are heavy: those whose share C/T is above the fraction m/(3m-2).
 ghost use Rattle.std.specs.Prelude.{◌≡◌, ◌*◌};
 ghost use Rattle.rules.specs.Verdicts.{fraction, heavy_at, heavy_count};
-ghost use Rattle.reading_laws.specs.Bounds.{TableInBounds, Within};
+ghost use Rattle.reading_laws.specs.Bounds.{Within};
 ghost use Rattle.rules.specs.Limits.{cores_min, cores_max};
 ghost use Rattle.tables.specs.Views.{view_row};
 ghost use Rattle.verdicts.specs.Fractions.{pack_fraction, view_fraction};
 ghost use Rattle.verdicts.specs.Rows.{table_of};
 
+use crate::rows::Rows;
 use tables::table::Row;
 
 // The share from which on a task is heavy, as a numerator and a denominator.
@@ -45,10 +46,9 @@ pub fn is_heavy(f: Fraction, row: Row) -> bool
 }
 
 // How many tasks are heavy.
-pub fn count_heavy(m: u32, rows: &[Row]) -> u32
-    requires { TableInBounds (table_of m rows.now) }
-    ensures { result ≡ heavy_count (table_of m rows.now) }
+pub fn count_heavy(table: &Rows<'_>) -> u32
+    ensures { result ≡ heavy_count (table_of table.now.m table.now.rows.now) }
 {
-    let f = Fraction::of(m);
-    rows.iter().filter(|row| is_heavy(f, **row)).count() as u32
+    let f = Fraction::of(table.m);
+    table.rows.iter().filter(|row| is_heavy(f, **row)).count() as u32
 }

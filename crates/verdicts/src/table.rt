@@ -10,6 +10,7 @@ ghost use Rattle.verdicts.specs.Structs.{outcome_of, struct_tests, repeat_of, te
 
 use crate::limit::judge;
 use crate::order::order;
+use crate::rows::Rows;
 use crate::share::count_heavy;
 use rules::kinds::{Repeat, TaskNumber};
 use rules::refusal::{Refusal, Refused};
@@ -48,11 +49,13 @@ fn judged(table: Table, h: Repeat) -> Judgement
     requires { Known table h }
     ensures { result ≡ judgement_of (view table) }
 {
-    let m = table.m.0;
-    let rows = &table.rows[..table.n.0 as usize];
+    let lent = Rows {
+        m: table.m.0,
+        rows: &table.rows[..table.n.0 as usize],
+    };
     Judgement {
-        verdict: judge(m, h.0, rows),
-        heavy: count_heavy(m, rows),
+        verdict: judge(&lent, h.0),
+        heavy: count_heavy(&lent),
         repeat: h,
     }
 }
@@ -83,7 +86,11 @@ fn ranked(table: Table) -> [TaskNumber; 64]
 {
     let n = table.n.0 as usize;
     let mut ranks = [0u8; 64];
-    order(table.m.0, &table.rows[..n], &mut ranks[..n]);
+    let lent = Rows {
+        m: table.m.0,
+        rows: &table.rows[..n],
+    };
+    order(&lent, &mut ranks[..n]);
     numbered(ranks)
 }
 

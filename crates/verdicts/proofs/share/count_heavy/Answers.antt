@@ -8,5 +8,5 @@ use Rattle.verdicts.proofs.share.count_heavy.Goals as goal
 
 pub returns : goal.returns
 returns c =
-    let e : c.count.result ≡ count_by (λ r. heavy_at (fraction c.args.m) (view_row r)) c.args.rows.now = search rules in
-    e ∙ sym (heavy_rows c.args.m c.args.rows.now)
+    let e : c.count.result ≡ count_by (λ r. heavy_at (fraction c.args.table.now.m) (view_row r)) c.args.table.now.rows.now = search rules in
+    e ∙ sym (heavy_rows c.args.table.now.m c.args.table.now.rows.now)

@@ -1,14 +1,16 @@
 -- `verdicts::table::judged` meets its contract: the rows that count are the table.
 use mathlib.Core.Path.{ap, ◌∙◌}
 use Rattle.rules.specs.Verdicts.{verdict, heavy_count}
-use Rattle.verdicts.proofs.Structs.{says, bounds_of, repeating}
+use Rattle.tables.specs.Views.{view}
+use Rattle.verdicts.proofs.Structs.{says, bounds_of}
 use Rattle.verdicts.proofs.table.judged.Goals as goal
 
-pub judge-requires : goal.judge-requires
-judge-requires c = repeating _ c.requires
+pub invariant_of-lent : goal.invariant_of-lent
+invariant_of-lent c = record { bounds = bounds_of _ c.requires.sound }
 
-pub count_heavy-requires : goal.count_heavy-requires
-count_heavy-requires c = bounds_of _ c.requires.sound
+pub judge-requires : goal.judge-requires
+unfolding view
+judge-requires c = c.requires.length
 
 pub returns : goal.returns
 returns c =
