@@ -1,54 +1,51 @@
--- The loop of `write_fields`: what was laid so far, and the fields that are left after it.
+-- A walk along fields, each a width and a number, that lays each right after those before it: what was laid so far, and what is left.
 use Prim.Native.Nat.{ℕ, ◌+◌, ◌≤◌, ◌<◌}
 use mathlib.Core.Path.{◌≡◌, refl, sym, ap, ◌∙◌}
 use mathlib.Core.List.{List, [], ◌∷◌, ◌++◌, map, append_assoc, append-nil}
 use native.Mathlib.Omega.{arith}
-use lib.ListN.{length, get_or, drop, set, drop_of_length-le}
+use lib.ListN.{length, get_or, drop, drop_of_length-le}
 use Rattle.std.proofs.lemmas.List.{drop_more}
-use Rattle.laws.specs.Lists.{sum}
-use Rattle.laws.specs.Digits.{field}
-use Rattle.rules.specs.Frames.{line_feed, fields, frame}
+use Rattle.laws.specs.Lists.{sum, join}
 use Rattle.rules.specs.Answers.{lay}
-use Rattle.reading_laws.proofs.Laying.{Laid, nothing, field_more, fed}
-use Rattle.frames.specs.Fields.{fields_frame, fields_bytes}
+use Rattle.reading_laws.proofs.Laying.{Laid, put}
 
-abbrev shown : List (ℕ × ℕ) → List ℕ
-shown fs = fields (map (λ f. f.0) fs) (map (λ f. f.1) fs)
+-- the pieces of fields, one after the other
+abbrev pub pieces_of : (ℕ → ℕ → List ℕ) → List (ℕ × ℕ) → List ℕ
+pieces_of piece fs = join (map (λ f. piece f.0 f.1) fs)
 
-abbrev wide : List (ℕ × ℕ) → ℕ
+abbrev pub wide : List (ℕ × ℕ) → ℕ
 wide fs = sum (map (λ f. f.0) fs)
 
--- after i fields
-pub record Going (out : List ℕ) (kind : ℕ) (fs : List (ℕ × ℕ)) (now : List ℕ) (end i : ℕ) : Type 0 where
+-- after i fields, which stand behind a head of some length
+pub record Going (piece : ℕ → ℕ → List ℕ) (out head : List ℕ) (begin : ℕ) (fs : List (ℕ × ℕ)) (now : List ℕ) (end i : ℕ) : Type 0 where
   pub text : List ℕ
   pub laid : Laid out text now end
-  pub whole : text ++ shown (drop i fs) ≡ field 2 kind ++ shown fs
-  pub long : end + wide (drop i fs) ≡ 2 + wide fs
+  pub whole : text ++ pieces_of piece (drop i fs) ≡ head ++ pieces_of piece fs
+  pub long : end + wide (drop i fs) ≡ begin + wide fs
 
-module _ (out : List ℕ) (kind : ℕ) (fs : List (ℕ × ℕ)) (room : fields_bytes fs ≤ length out) where
-  pub start : {now : List ℕ} → now ≡ lay out 0 (field 2 kind) → Going out kind fs now 2 0
-  start e = record { text = field 2 kind; laid = field_more out (nothing out) 2 kind (omega arith) e; whole = refl; long = refl }
+module _ (piece : ℕ → ℕ → List ℕ) (sized : (w v : ℕ) → length (piece w v) ≡ w) (out head : List ℕ) (begin : ℕ) (fs : List (ℕ × ℕ)) where
+  pub start : {now : List ℕ} → Laid out head now begin → Going piece out head begin fs now begin 0
+  start laid = record { text = head; laid = laid; whole = refl; long = refl }
 
-  module _ {now : List ℕ} {end i : ℕ} (g : Going out kind fs now end i) where
-    pub turn : {now' : List ℕ} → i < length fs → now' ≡ lay now end (field (get_or fs i (0, 0)).0 (get_or fs i (0, 0)).1)
-        → Going out kind fs now' (end + (get_or fs i (0, 0)).0) (i + 1)
-    unfolding fields
-    turn more e =
+  module _ {now : List ℕ} {end i : ℕ} (g : Going piece out head begin fs now end i) where
+    pub turn : {now' : List ℕ} → begin + wide fs ≤ length out → i < length fs → now' ≡ lay now end (piece (get_or fs i (0, 0)).0 (get_or fs i (0, 0)).1)
+        → Going piece out head begin fs now' (end + (get_or fs i (0, 0)).0) (i + 1)
+    turn room more e =
         let f = get_or fs i (0, 0) in
         let next : drop i fs ≡ f ∷ drop (i + 1) fs = drop_more fs i (0, 0) more in
         let width : wide (drop i fs) ≡ f.0 + wide (drop (i + 1) fs) = ap wide next in
-        let line : shown (drop i fs) ≡ field f.0 f.1 ++ shown (drop (i + 1) fs) = ap shown next in
+        let line : pieces_of piece (drop i fs) ≡ piece f.0 f.1 ++ pieces_of piece (drop (i + 1) fs) = ap (pieces_of piece) next in
         record {
-          text = g.text ++ field f.0 f.1;
-          laid = field_more out g.laid f.0 f.1 (omega (arith, width, g.long)) e;
-          whole = append_assoc g.text (field f.0 f.1) (shown (drop (i + 1) fs)) ∙ ap (λ (l : List ℕ). g.text ++ l) (sym line) ∙ g.whole;
+          text = g.text ++ piece f.0 f.1;
+          laid = put out g.laid (piece f.0 f.1) f.0 (sized f.0 f.1) (omega (arith, width, g.long, room)) e;
+          whole = append_assoc g.text (piece f.0 f.1) (pieces_of piece (drop (i + 1) fs)) ∙ ap (λ (l : List ℕ). g.text ++ l) (sym line) ∙ g.whole;
           long = omega (arith, width, g.long);
         }
 
-    pub ended : length fs ≤ i → set now end line_feed ≡ fields_frame kind fs ++ drop (fields_bytes fs) out
-    unfolding frame fields
+    -- all fields are laid
+    pub ended : length fs ≤ i → Laid out (head ++ pieces_of piece fs) now end × (end ≡ begin + wide fs)
     ended h =
         let none : drop i fs ≡ [] = drop_of_length-le fs {i = i} h in
-        let text : g.text ≡ field 2 kind ++ shown fs = sym (append-nil g.text) ∙ sym (ap (λ (l : List (ℕ × ℕ)). g.text ++ shown l) none) ∙ g.whole in
+        let text : g.text ≡ head ++ pieces_of piece fs = sym (append-nil g.text) ∙ sym (ap (λ (l : List (ℕ × ℕ)). g.text ++ pieces_of piece l) none) ∙ g.whole in
         let last : wide (drop i fs) ≡ 0 = ap wide none in
-        fed out g.laid (fields_bytes fs) (omega (arith, last, g.long)) room ∙ ap (λ (t : List ℕ). t ++ (line_feed ∷ []) ++ drop (fields_bytes fs) out) text
+        (rw (← text) g.laid, omega (arith, last, g.long))

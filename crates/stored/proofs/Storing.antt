@@ -3,22 +3,21 @@ use Rattle.std.proofs.Common.{Ok, Err}
 use Prim.Native.Nat.{ℕ, ◌+◌, ◌-◌, ◌*◌, ◌≤◌, ◌<◌}
 use mathlib.Core.Path.{◌≡◌, refl, sym, ap, ◌∙◌}
 use mathlib.Core.Bool.{false}
-use mathlib.Core.List.{List, [], ◌∷◌, ◌++◌, map, append_assoc, append-nil}
+use mathlib.Core.List.{List, [], ◌∷◌, ◌++◌, map}
 use native.Mathlib.Omega.{arith}
 use borrow.Rule.Slice.PartMut.{mid_of, put_mid}
-use lib.ListN.{length, get_or, drop, drop_of_length-le}
-use Rattle.std.proofs.lemmas.List.{drop_more}
-use Rattle.laws.specs.Lists.{sum, join, numbers}
+use lib.ListN.{length, get_or, drop}
+use Rattle.laws.specs.Lists.{join, numbers}
 use Rattle.laws.proofs.Filling.{numbers_more}
 use Rattle.laws.proofs.Joins.{join_last}
-use Rattle.rules.specs.Answers.{lay}
 use Rattle.rules.specs.Results.{room_reply}
 use Rattle.rules.specs.declared.refusal.Refusal.{Refusal}
 use Rattle.rules.specs.declared.refusal.Refusal.TheVariants.{BadState}
 use Rattle.tables.specs.Views as Tables
 use Rattle.tables.specs.Writes.{made, wrote_text}
 use Rattle.tables.proofs.Written.{text_short, text-written}
-use Rattle.reading_laws.proofs.Laying.{Laid, nothing, put, first, more, laid-front, Pieces, next_piece}
+use Rattle.reading_laws.proofs.Laying.{Laid, first, more, laid-front, Pieces, next_piece}
+use Rattle.frames.proofs.FieldLoop.{pieces_of, wide}
 use Rattle.machine.specs.Views.{tasks, task_number, core_number, units, view, formed}
 use Rattle.machine.specs.declared.state.State.{State}
 use Rattle.machine.specs.declared.formed.Formed.{Formed}
@@ -27,53 +26,19 @@ use Rattle.machine.proofs.Asking.{text_ill, text_well}
 use Rattle.machine.proofs.Testing.{sizes}
 use Rattle.stored.specs.Layout.{bytes_of, written, fixed_widths, task_widths, length_of, fixed_of, task_of, record_of, store}
 use Rattle.stored.specs.Answers.{store_state, stored_state}
-use Rattle.stored.proofs.Numbers.{length-bytes_of}
 use Rattle.stored.proofs.Fields.{length-written, length_records}
 use Rattle.stored.proofs.Round.{length-store}
 
--- ---- fields, one right after the other
+-- ---- numbers, one right after the other
 
--- the bytes of numbers, of each its width and its number
-abbrev shown : List (ℕ × ℕ) → List ℕ
-shown fs = written (map (λ f. f.0) fs) (map (λ f. f.1) fs)
+written_pieces : (fs : List (ℕ × ℕ)) → pieces_of bytes_of fs ≡ written (map (λ f. f.0) fs) (map (λ f. f.1) fs)
+unfolding written
+written_pieces [] = refl
+written_pieces (f ∷ fs) = ap (λ (l : List ℕ). bytes_of f.0 f.1 ++ l) (written_pieces fs)
 
-abbrev wide : List (ℕ × ℕ) → ℕ
-wide fs = sum (map (λ f. f.0) fs)
-
--- so far the first i fields stand at the front of the lent part
-pub record Fields (out : List ℕ) (fs : List (ℕ × ℕ)) (now : List ℕ) (end i : ℕ) : Type 0 where
-  pub text : List ℕ
-  pub laid : Laid out text now end
-  pub whole : text ++ shown (drop i fs) ≡ shown fs
-  pub long : end + wide (drop i fs) ≡ wide fs
-
-module _ (out : List ℕ) (fs : List (ℕ × ℕ)) where
-  pub no_field : Fields out fs out 0 0
-  no_field = record { text = []; laid = nothing out; whole = refl; long = omega arith }
-
-  module _ (room : wide fs ≤ length out) {now : List ℕ} {end i : ℕ} (g : Fields out fs now end i) where
-    pub next_field : {now' : List ℕ} → i < length fs → now' ≡ lay now end (bytes_of (get_or fs i (0, 0)).0 (get_or fs i (0, 0)).1)
-        → Fields out fs now' (end + (get_or fs i (0, 0)).0) (i + 1)
-    unfolding written
-    next_field more e =
-        let f = get_or fs i (0, 0) in
-        let next : drop i fs ≡ f ∷ drop (i + 1) fs = drop_more fs i (0, 0) more in
-        let width : wide (drop i fs) ≡ f.0 + wide (drop (i + 1) fs) = ap wide next in
-        let line : shown (drop i fs) ≡ bytes_of f.0 f.1 ++ shown (drop (i + 1) fs) = ap shown next in
-        record {
-          text = g.text ++ bytes_of f.0 f.1;
-          laid = put out g.laid (bytes_of f.0 f.1) f.0 (length-bytes_of f.0 f.1) (omega (arith, width, g.long, room)) e;
-          whole = append_assoc g.text (bytes_of f.0 f.1) (shown (drop (i + 1) fs)) ∙ ap (λ (l : List ℕ). g.text ++ l) (sym line) ∙ g.whole;
-          long = omega (arith, width, g.long);
-        }
-
-    pub all-fields : length fs ≤ i → now ≡ shown fs ++ drop (wide fs) out
-    unfolding written
-    all-fields h =
-        let none : drop i fs ≡ [] = drop_of_length-le fs {i = i} h in
-        let text : g.text ≡ shown fs = sym (append-nil g.text) ∙ sym (ap (λ (l : List (ℕ × ℕ)). g.text ++ shown l) none) ∙ g.whole in
-        let last : wide (drop i fs) ≡ 0 = ap wide none in
-        laid-front out g.laid (wide fs) (omega (arith, last, g.long)) ∙ ap (λ (t : List ℕ). t ++ drop (wide fs) out) text
+pub numbers-laid : (out : List ℕ) (fs : List (ℕ × ℕ)) {now : List ℕ} {end : ℕ} → Laid out (pieces_of bytes_of fs) now end → end ≡ wide fs
+    → now ≡ written (map (λ f. f.0) fs) (map (λ f. f.1) fs) ++ drop (wide fs) out
+numbers-laid out fs laid there = laid-front out laid (wide fs) there ∙ ap (λ (t : List ℕ). t ++ drop (wide fs) out) (written_pieces fs)
 
 -- ---- the record of a task
 
