@@ -24,4 +24,4 @@ write_field_once κs a x y s t p q = both p q
 -- for each function that gives what the closure writes for every number below the base
 pub write_places_once : (B F fits laws fn d₁ d₂ d₃ d₄ f : _)
     → One (λ κs a r s. Signs B (F-post (number B) F fn d₁ d₂ d₃ d₄ a.1.1.1.1.0) f × write-places.Post B F fits laws fn d₁ d₂ d₃ d₄ κs a r s) (λ κs r s. s.0.now)
-write_places_once B F fits laws fn d₁ d₂ d₃ d₄ f κs a x y s t p q = both (p.1 f p.0) (q.1 f q.0)
+write_places_once B F fits laws fn d₁ d₂ d₃ d₄ f κs a x y s t p q = both (p.1.0 f p.0) (q.1.0 f q.0)

@@ -5,4 +5,4 @@ use Rattle.laws.proofs.Digits.{field_places}
 use Rattle.digits.proofs.write_field.Goals as goal
 
 pub returns : goal.returns
-returns c = rw field_places (c.write_places.ensures digit (λ d r less given. search rules))
+returns c = rw field_places (c.write_places.ensures.computed digit (λ d r less given. search rules))

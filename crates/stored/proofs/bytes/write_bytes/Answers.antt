@@ -4,4 +4,4 @@ use Rattle.stored.proofs.Numbers.{bytes_places}
 use Rattle.stored.proofs.bytes.write_bytes.Goals as goal
 
 pub returns : goal.returns
-returns c = rw bytes_places (c.write_places.ensures (λ d. d) (λ d r less given. search rules))
+returns c = rw bytes_places (c.write_places.ensures.computed (λ d. d) (λ d r less given. search rules))
