@@ -15,9 +15,10 @@ unfolding fields
 fields_pieces [] = refl
 fields_pieces (f ∷ fs) = ap (λ (l : List ℕ). field f.0 f.1 ++ l) (fields_pieces fs)
 
-pub framed : (out : List ℕ) (kind : ℕ) (fs : List (ℕ × ℕ)) {now : List ℕ} {end : ℕ} → fields_bytes fs ≤ length out
-    → Laid out (field 2 kind ++ pieces_of field fs) now end → end ≡ 2 + wide fs → set now end line_feed ≡ fields_frame kind fs ++ drop (fields_bytes fs) out
+pub framed : (out : List ℕ) (kind : ℕ) (fs : List (ℕ × ℕ)) {now : List ℕ} {end feed : ℕ} → fields_bytes fs ≤ length out
+    → Laid out (field 2 kind ++ pieces_of field fs) now end → end ≡ 2 + wide fs → feed ≡ end → set now feed line_feed ≡ fields_frame kind fs ++ drop (fields_bytes fs) out
 unfolding frame
-framed out kind fs room laid there =
-    fed out laid (fields_bytes fs) (omega (arith, there)) room
+framed out kind fs {now} room laid there after =
+    ap (λ (k : ℕ). set now k line_feed) after
+    ∙ fed out laid (fields_bytes fs) (omega (arith, there)) room
     ∙ ap (λ (l : List ℕ). (field 2 kind ++ l) ++ (line_feed ∷ []) ++ drop (fields_bytes fs) out) (fields_pieces fs)

@@ -15,6 +15,7 @@ use Rattle.rules.specs.Frames.{fields}
 use Rattle.rules.specs.Answers.{lay}
 use Rattle.reading_laws.proofs.Lays.{lay_byte, laid_byte}
 use Rattle.frames.specs.Pairs.{pairs, names}
+use Rattle.frames.proofs.PairLoop.{length_pairs}
 
 -- ---- where the digits of a value stand
 
@@ -42,12 +43,12 @@ all_bytes = length_from 0 256
 
 -- an array of 256 values that are made from their index alone, by a function that gives the index back
 pub counted : {F : Type 0} {g : Mut F (ℕ × Unit {0}) ℕ} {f : F} {every : List ℕ} → IsFromFnResult g f every 256
-    → ((p : F) (i v : ℕ) (q : F) → Called g p (i, tt) v q → v ≡ i) → every ≡ bytes
+    → ((p : F) (i v : ℕ) (q : F) → i < 256 → Called g p (i, tt) v q → v ≡ i) → every ≡ bytes
 counted {every = every} made same =
     ext_get_or 0 every bytes (made.long ∙ sym all_bytes) (λ i inside.
     let small : i < 256 = omega (arith, made.long) in
     let call = made.at i 0 small in
-    same call.0 i _ call.1 call.2 ∙ sym (byte_at i small))
+    same call.0 i _ call.1 small call.2 ∙ sym (byte_at i small))
 
 abbrev blank : List ℕ
 blank = replicate 512 0
@@ -62,13 +63,19 @@ all_named {out = out} counts written =
 
 -- ---- they are looked up
 
-pub name_written : (v : ℕ) → v < 256 → (out : List ℕ) (at : ℕ) → at + 2 ≤ length out
-    → set (set out at (get_or names (2 * v) 0)) (at + 1) (get_or names (2 * v + 1) 0) ≡ lay out at (field 2 v)
+-- each byte has its two: `write`'s own attribute names this
+pub names_long : (l : List ℕ) → l ≡ names → length l ≡ 512
+unfolding names
+names_long l e = ap length e ∙ length_pairs bytes ∙ omega (arith, all_bytes)
+
+-- the places that are looked up are those of the byte's two digits
+pub name_written : (v : ℕ) → v < 256 → (out : List ℕ) (at : ℕ) → at + 2 ≤ length out → {high low : ℕ} → high ≡ 2 * v → low ≡ 2 * v + 1
+    → set (set out at (get_or names high 0)) (at + 1) (get_or names low 0) ≡ lay out at (field 2 v)
 unfolding names field
-name_written v byte out at fits =
+name_written v byte out at fits high_place low_place =
     let found = digits_at bytes v (omega (arith, all_bytes)) in
     let high : get_or (pairs bytes) (2 * v) 0 ≡ digit (v / 16 % 16) = found.0 ∙ ap (λ (n : ℕ). digit (n / 16 % 16)) (byte_at v byte) in
     let low : get_or (pairs bytes) (2 * v + 1) 0 ≡ digit (v % 16) = found.1 ∙ ap (λ (n : ℕ). digit (n % 16)) (byte_at v byte) in
-    rw (high, low)
+    rw (high_place, low_place, high, low)
     (laid_byte out at (digit (v / 16 % 16) ∷ []) (set out at (digit (v / 16 % 16))) (lay_byte out at (digit (v / 16 % 16)) (omega arith)) (at + 1) (omega arith)
     (digit (v % 16)) (omega arith))

@@ -19,12 +19,12 @@ unfolding pairs fields
 length_pairs [] = refl
 length_pairs (v ∷ vs) = length-append (field 2 v) (pairs vs) ∙ omega (arith, length-field 2 v, length_pairs vs)
 
-pairs-append : (us vs : List ℕ) → pairs (us ++ vs) ≡ pairs us ++ pairs vs
+pub pairs-append : (us vs : List ℕ) → pairs (us ++ vs) ≡ pairs us ++ pairs vs
 unfolding pairs fields
 pairs-append [] vs = refl
 pairs-append (u ∷ us) vs = ap (λ (l : List ℕ). field 2 u ++ l) (pairs-append us vs) ∙ sym (append_assoc (field 2 u) (pairs us) (pairs vs))
 
-two_digits : (v : ℕ) → v < 256 → pairs (v ∷ []) ≡ digit (v / 16) ∷ digit (v % 16) ∷ []
+pub two_digits : (v : ℕ) → v < 256 → pairs (v ∷ []) ≡ digit (v / 16) ∷ digit (v % 16) ∷ []
 unfolding pairs fields field
 two_digits v h =
     let high : v / 16 % 16 ≡ v / 16 = mod-eq_of_lt (omega arith) in

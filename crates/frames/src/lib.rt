@@ -2,6 +2,7 @@
 #![tactic(auto)]
 
 pub mod fields;
+pub mod lent_names;
 pub mod names;
 pub mod pairs;
 pub mod refusal;

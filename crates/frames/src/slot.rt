@@ -6,13 +6,13 @@ ghost use Rattle.rules.specs.declared.frame_type.FrameType.TheVariants.{Slot};
 ghost use Rattle.rules.specs.Runs.{slot_line};
 ghost use Rattle.frames.specs.Slots.{shown_as};
 
-use crate::names::Names;
+use crate::lent_names::Names;
 use crate::pairs::write_pairs;
 use crate::start::write_type;
 use rules::frame_type::FrameType;
 
 // The type and the slot's number at the front of the lent part; nothing after them differs.
-fn write_number(out: &mut [u8], slot: u32, names: &Names)
+fn write_number(out: &mut [u8], slot: u32, names: Names<'_>)
     requires { 10 ≤ length out.old }
     ensures { out.new ≡ field 2 (type_number Slot) ++ field 8 slot ++ drop 10 out.old }
 {
@@ -27,7 +27,14 @@ fn write_number(out: &mut [u8], slot: u32, names: &Names)
 }
 
 // The whole frame at the front of the lent part; nothing after it differs.
-pub fn write_slot(out: &mut [u8], slot: u32, cores: &[u8], moves: u32, misses: u32, names: &Names)
+pub fn write_slot(
+    out: &mut [u8],
+    slot: u32,
+    cores: &[u8],
+    moves: u32,
+    misses: u32,
+    names: Names<'_>,
+)
     requires { 2 * length cores.now + 15 ≤ length out.old }
     ensures { out.new ≡ slot_line (shown_as slot cores.now moves misses) ++ drop (2 * length cores.now + 15) out.old }
 {

@@ -7,7 +7,8 @@ use engine::columns::Columns;
 use engine::counts::Counts;
 use engine::release::release;
 use engine::slot::slot;
-use frames::names::Names;
+use frames::lent_names::Names;
+use frames::names::names;
 use frames::slot::write_slot;
 
 // How many bytes the frame of a slot of m cores takes.
@@ -39,7 +40,8 @@ pub fn run_slots(
     let width = frame_length(m);
     let n = left.len();
     let none = [0u32; 64];
-    let names = Names::new();
+    let digits = names();
+    let names = Names { bytes: &digits };
     let mut moves = totals.moves;
     let mut misses = totals.misses;
     let mut place = 0;
@@ -53,7 +55,7 @@ pub fn run_slots(
             &cores[..m],
             shown.moves,
             shown.misses,
-            &names,
+            names,
         );
         moves += u64::from(shown.moves);
         misses += u64::from(shown.misses);

@@ -16,4 +16,4 @@ loop-width-preserved c = turn field length-field _ _ 2 _ c.loop-width.invariant 
 pub returns : goal.returns
 returns c =
     let laid = ended field length-field _ _ 2 _ c.loop-width.invariant c.loop-width-test.false in
-    framed _ _ _ c.requires laid.0 laid.1
+    framed _ _ _ c.requires laid.0 laid.1 (omega arith)
