@@ -7,7 +7,6 @@ pub mod Keys
 pub mod Inserting
 pub mod Ordering
 pub mod Pieces
-pub mod Maps
 pub mod Testing
 pub mod Structs
 pub mod Unique

@@ -98,7 +98,7 @@ module _ (xs ys : List Test) where
 -- ---- row by row
 
 -- the tests of rows, one after the other
-abbrev rows_tests : List Rules.Row → List Test
+abbrev pub rows_tests : List Rules.Row → List Test
 rows_tests rows = join (map row_tests rows)
 
 -- those of rows that are lent
