@@ -99,8 +99,8 @@ pub fn is_formed(s: State) -> bool
     let Ok(order) = priority(t) else {
         return false;
     };
-    s.ranks[..n] == order[..n]
-        && clock <= Slot::MAX
+    clock <= Slot::MAX
+        && s.ranks[..n] == order[..n]
         && tasks_fit(&s)
         && totals_fit(t.m.0, clock, s.moves, s.misses)
 }

@@ -1,7 +1,7 @@
 -- `machine::form::is_formed` meets its contract: each test is one conjunct of the form.
 use Prim.Native.Nat.{◌*◌, ◌≤◌}
-use mathlib.Core.Path.{◌≡◌, sym, ap, ◌∙◌}
-use mathlib.Core.Bool.{Bool, true, ◌&&◌}
+use mathlib.Core.Path.{◌≡◌, refl, sym, ap, ◌∙◌}
+use mathlib.Core.Bool.{Bool, true, false, ◌&&◌}
 use mathlib.Core.List.{List}
 use native.Mathlib.Omega.{arith}
 use lib.ListN.{take}
@@ -28,7 +28,7 @@ use Rattle.machine.specs.Views.{tasks, viewed, padded, formed}
 use Rattle.machine.proofs.Arrays.{state_full}
 use Rattle.machine.proofs.Packing.{padded-few}
 use Rattle.machine.proofs.Passing.{taken-accepts, refused-accepts, taken-ranks}
-use Rattle.machine.proofs.Forming.{fit, not_padded, not_accepted, form_left, ready}
+use Rattle.machine.proofs.Forming.{held, fit, not_padded, not_accepted, form_left, ready}
 use Rattle.machine.proofs.Walking.{same_by}
 use Rattle.machine.proofs.form.is_formed.Goals as goal
 
@@ -36,11 +36,18 @@ use Rattle.machine.proofs.form.is_formed.Goals as goal
 few-of : (s : State) {b : Bool} → b ≡ padded s → b ≡ true → tasks s ≤ tasks_max
 few-of s e holds = padded-few s (to_T (sym e ∙ holds))
 
+-- which of two tests stands first does not matter
+turned_round : (a b : Bool) → (a && b) ≡ (b && a)
+turned_round true true = refl
+turned_round true false = refl
+turned_round false true = refl
+turned_round false false = refl
+
 -- where the padding holds and the analysis is taken, the form is what the last tests say
 form-of : (s : State) {vs : List Val} {p : Result (List TaskNumber) Refused} {ranks : List TaskNumber} {b : Bool} → Is (row StateType.the_type) s vs → b ≡ padded s → b ≡ true
     → p ≡ priority_answer (settle (struct_tests s.table) (order (Tables.view s.table))) → p ≡ Ok ranks
     → formed s
-    ≡ (pointwise (λ x y. nat_eq x.0 y.0) (take (tasks s) s.ranks) (take (tasks s) ranks) && leb s.clock.0 clock_max && fit s
+    ≡ (leb s.clock.0 clock_max && pointwise (λ x y. nat_eq x.0 y.0) (take (tasks s) s.ranks) (take (tasks s) ranks) && fit s
     && leb s.moves (s.table.m.0 * s.clock.0) && leb s.misses (tasks_max * s.clock.0))
 unfolding viewed
 form-of s {vs} {ranks = ranks} w e holds is taken =
@@ -49,7 +56,8 @@ form-of s {vs} {ranks = ranks} w e holds is taken =
     let accepting = taken-accepts s.table full.rows few is taken in
     let order_is = taken-ranks s.table full.rows few is taken in
     form_left s full few (sym e ∙ holds) accepting
-    ∙ ap (λ (b : Bool). b && leb s.clock.0 clock_max && fit s && leb s.moves (s.table.m.0 * s.clock.0) && leb s.misses (tasks_max * s.clock.0))
+    ∙ ap (λ (b : Bool). b && fit s && leb s.moves (s.table.m.0 * s.clock.0) && leb s.misses (tasks_max * s.clock.0)) (turned_round (held s) (leb s.clock.0 clock_max))
+    ∙ ap (λ (b : Bool). leb s.clock.0 clock_max && b && fit s && leb s.moves (s.table.m.0 * s.clock.0) && leb s.misses (tasks_max * s.clock.0))
     (sym (same_by (λ (x : TaskNumber). x.0) (take (tasks s) s.ranks) (take (tasks s) ranks)
     ∙ ap (λ (l : List TaskNumber). same (viewed (λ x. x.0) (tasks s) s.ranks) (viewed (λ x. x.0) (tasks s) l)) order_is))
 
@@ -71,8 +79,8 @@ slice_bounds-eq-end c =
     let full = state_full c.args.s _ c.well_formed.0 in
     sym (length-take-le (tasks c.args.s) c.args.s.ranks (omega (arith, full.ranks, few-of c.args.s c.is_padded.ensures c.if-not-is_padded.false)))
 
-pub slice_bounds-eq-end-2 : goal.slice_bounds-eq-end-2
-slice_bounds-eq-end-2 c =
+pub slice_bounds-eq-end-then-clock-le-MAX : goal.slice_bounds-eq-end-then-clock-le-MAX
+slice_bounds-eq-end-then-clock-le-MAX c =
     let few = few-of c.args.s c.is_padded.ensures c.if-not-is_padded.false in
     sym (length-take-le (tasks c.args.s) c.in-Ok.order (omega (arith, few)))
 
