@@ -34,10 +34,10 @@ module _ (chosen left done : List ℕ) (w : Working chosen left done) where
       }
 
   module _ {l left' done' : List ℕ} (g : Worked l left done left' done') where
-    left_size : length left' ≡ length left
+    pub left_size : length left' ≡ length left
     left_size = ap length g.lefts ∙ length-each n _
 
-    done_size : length done' ≡ length left
+    pub done_size : length done' ≡ length left
     done_size = ap length g.dones ∙ length-each n _
 
   module _ {left' done' : List ℕ} {j : ℕ} (g : Worked (take j chosen) left done left' done') where

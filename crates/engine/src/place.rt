@@ -16,7 +16,6 @@ fn last_core(last: &[u8], i: u8) -> u8
     last[usize::from(i - 1)]
 }
 
-#[tactic(auto, unfolding(rules::specs::Slots::free))]
 fn is_free(cores: &[u8], k: u8) -> bool
     requires { k ≤ length cores.now }
     ensures { result ≡ free cores.now k }
@@ -24,7 +23,6 @@ fn is_free(cores: &[u8], k: u8) -> bool
     0 < k && cores[usize::from(k - 1)] == 0
 }
 
-#[tactic(auto, unfolding(rules::specs::Slots::seat))]
 fn take_core(cores: &mut [u8], k: u8, i: u8)
     requires { (1 ≤ k) × (k ≤ length cores.old) }
     ensures { cores.new ≡ seat cores.old k i }

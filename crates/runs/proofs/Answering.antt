@@ -64,7 +64,7 @@ module _ (s : State) (count : ℕ) (out : List ℕ) (place : ℕ) where
 
       module _ {u : Unit {0}} (room : room_reply (length out) place bytes ≡ Ok u) where
         -- the place lies within the buffer, with room for all frames after it
-        room_is : place + count * frame_length s.table.m.0 ≤ length out
+        pub room_is : place + count * frame_length s.table.m.0 ≤ length out
         room_is = rw (← size) (room_there (length out) place bytes room)
 
         pub take-run : {r : State} {tail : List ℕ} → RunFormed s count (mid_of place (length out - place) out) r tail

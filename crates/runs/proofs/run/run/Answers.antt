@@ -1,5 +1,5 @@
 -- `runs::run::run` meets its contract: the tests in their order, then the run.
-use Rattle.std.proofs.Common.{sym, ap, ◌∙◌, Result}
+use Rattle.std.proofs.Common.{sym, ap, ◌∙◌, Result, arith}
 use Rattle.rules.specs.declared.refusal.Refusal.{Refusal}
 use Rattle.rules.proofs.Results.{passed_on}
 use Rattle.machine.specs.declared.state.State.{State}
@@ -26,7 +26,7 @@ length_of-requires c = rw (← passed c.args.s c.try_from.ensures c.in_ok-formed
 pub returns-in_err-room : goal.returns-in_err-room
 returns-in_err-room c =
     ap (λ (a : Result State Refusal). run_end a c.args.out.now) (passed_on _ c.from_residual-in_err-room.ensures.1)
-    ∙ refuse_room _ _ _ _ (well c.args.s c.try_from.ensures c.in_ok-formed.was) (sym c.is_past.ensures ∙ c.if-is_past.false) c.length_of.ensures
+    ∙ refuse_room _ _ _ _ (well c.args.s c.try_from.ensures c.in_ok-formed.was) (grind arith) c.length_of.ensures
     (sym c.room.ensures ∙ c.in_err-room.was)
 
 pub returns : goal.returns
