@@ -8,12 +8,14 @@ use lib.Dec.{T}
 use lib.ListN.{length, take, length-append}
 use Rattle.rules.specs.Limits.{tasks_max}
 use Rattle.rules.specs.Refusals.{settle}
+use Rattle.rules.specs.Repeat.{repeat_length}
 use Rattle.rules.specs.Runs.{verdict_line, order_line}
 use Rattle.rules.specs.Tables as Rules
 use Rattle.rules.specs.Tables.{size, accepts}
-use Rattle.rules.specs.Verdicts.{order}
+use Rattle.rules.specs.Verdicts.{verdict, heavy_count, order}
 use Rattle.rules.specs.declared.refusal.Refused.{Refused}
 use Rattle.rules.specs.declared.kinds.TaskNumber.{TaskNumber}
+use Rattle.rules.specs.declared.verdict.Verdict.{Verdict}
 use Rattle.priority_laws.proofs.Priority.{order-length}
 use Rattle.reading_laws.proofs.Tests.{accepts-iff}
 use Rattle.tables.specs.Views.{view}
@@ -60,8 +62,13 @@ module _ (t : Table) (o : Opened t) where
       cc
 
   -- the frame of its numbers is the table's line
-  pub judgement-written : (rest : List ℕ) {now : List ℕ} {j : Judgement} → now ≡ verdict_frame j.verdict j.heavy j.repeat.0 ++ rest → j ≡ judgement_of (view t) → now ≡ verdict_line (view t) ++ rest
-  judgement-written rest e is = e ∙ rw (is, verdict-line (view t))
+  pub judgement-written : (rest : List ℕ) {now : List ℕ} {v : Verdict} {heavy h : ℕ}
+      → now ≡ verdict_frame v heavy h ++ rest
+      → v ≡ verdict (view t)
+      → heavy ≡ heavy_count (view t)
+      → h ≡ repeat_length (view t).rows
+      → now ≡ verdict_line (view t) ++ rest
+  judgement-written rest e ev en eh = e ∙ rw (ev, en, eh, verdict-line (view t))
 
   -- the order is given, and it is the table's
   pub ordered : priority_answer (settle (struct_tests t) (order (view t))) ≡ Ok (pack_ranks (order (view t)))

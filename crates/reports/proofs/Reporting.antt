@@ -1,12 +1,17 @@
 -- The text for any input: where it goes, and that it is never longer than the program's buffer.
 use Rattle.std.proofs.Common.{Result, Ok, Err}
-use Prim.Native.Nat.{ℕ, ◌-◌, ◌≤◌}
+use Prim.Native.Nat.{ℕ, ◌+◌, ◌-◌, ◌≤◌, ◌<◌, min}
 use mathlib.Core.Path.{◌≡◌, refl, sym, ap, ◌∙◌}
+use mathlib.Core.Bool.{true, false}
+use mathlib.Core.Logic.{⊎_elim}
 use mathlib.Core.List.{List, ◌++◌}
 use native.Mathlib.Omega.{arith}
+use borrow.Author.Tests.{ltb-true, ltb-false, lt-ltb, le-ltb}
 use borrow.Rule.Slice.PartMut.{mid_of, put_mid}
+use lib.Dec.{ltb}
 use lib.ListN.{length, take, drop}
-use Rattle.laws.proofs.Tests.{never}
+use lib.Seq.{take_all}
+use Rattle.laws.proofs.Tests.{never, decide}
 use Rattle.rules.specs.Limits.{input_max}
 use Rattle.rules.specs.Refusals.{Answer, taken, refused, number_of}
 use Rattle.rules.specs.Tables as Rules
@@ -14,6 +19,7 @@ use Rattle.rules.specs.Tables.{size}
 use Rattle.rules.specs.Files.{read_file}
 use Rattle.rules.specs.Program.{reply, program}
 use Rattle.rules.specs.declared.refusal.Refusal.{Refusal}
+use Rattle.rules.specs.declared.refusal.Refusal.TheVariants.{NoRoom}
 use Rattle.rules.specs.declared.refusal.Refused.{Refused}
 use Rattle.rules.specs.Results.{room_reply}
 use Rattle.tables.specs.declared.table.Table.{Table}
@@ -29,6 +35,18 @@ use Rattle.reports.proofs.Whole.{length-report}
 use Rattle.tables.proofs.Written.{text_short, text-laid, text-written}
 use Rattle.reports.proofs.Replies.{length-refusal, reply-answer}
 
+-- ---- the start of the input
+
+pub start_is : (input : List ℕ) (k : ℕ) → k ≡ min (length input) input_max → take k input ≡ take input_max input
+start_is input k e =
+    ⊎_elim (λ (l : ltb input_max (length input) ≡ true).
+    let cut : k ≡ input_max = omega (arith, ltb-true input_max (length input) l) in
+    ap (λ (n : ℕ). take n input) cut)
+    (λ (l : ltb input_max (length input) ≡ false).
+    let short : length input ≤ input_max = ltb-false input_max (length input) l in
+    take_all k input (omega arith) ∙ sym (take_all input_max input short))
+    (decide (ltb input_max (length input)))
+
 -- ---- where the text goes
 
 module _ (input out : List ℕ) (place : ℕ) {a : Result Table Refused} (is : a ≡ table_answer (read_file (take input_max input))) {size : ℕ} (long : size ≡ length (reply_to a)) where
@@ -40,17 +58,20 @@ module _ (input out : List ℕ) (place : ℕ) {a : Result Table Refused} (is : a
   size_is = sym (long ∙ ap length text_is)
 
   -- there is no room for it
-  pub no_room : {r : Refusal} → room_reply (length out) place size ≡ Err r → made (Err r) out ≡ report_of input out place
+  pub no_room : length out < place + size → made (Err NoRoom) out ≡ report_of input out place
   unfolding report_of
-  no_room h = text_short out place (program input) size size_is h
+  no_room h =
+      let short : room_reply (length out) place size ≡ Err NoRoom = rw (lt-ltb (length out) (place + size) h) refl in
+      text_short out place (program input) size size_is short
 
   -- there is, and it was written through the lent tail
-  pub room_given : {u : Unit {0}} {tail : List ℕ} → room_reply (length out) place size ≡ Ok u
+  pub room_given : {tail : List ℕ} → place + size ≤ length out
       → tail ≡ reply_to a ++ drop (length (reply_to a)) (mid_of place (length out - place) out)
       → made (Ok size) (put_mid place (length out - place) out tail) ≡ report_of input out place
   unfolding report_of
   room_given {tail = tail} h e =
-      text-written out place (program input) size size_is h tail
+      let there : room_reply (length out) place size ≡ Ok tt = rw (le-ltb (length out) (place + size) h) refl in
+      text-written out place (program input) size size_is there tail
       (e ∙ ap (λ (l : List ℕ). l ++ drop (length l) (mid_of place (length out - place) out)) text_is ∙ rw size_is)
 
 -- ---- how long it is

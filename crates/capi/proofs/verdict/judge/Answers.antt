@@ -31,8 +31,8 @@ found bs out place l =
 pub returns-in_err-s : goal.returns-in_err-s
 returns-in_err-s c =
     let a = c.args in
-    ap (λ (x : Result ℕ Refusal). made x a.out.now) (passed_on _ c.from_residual.ensures.1)
-    ∙ missing a.state.now a.out.now a.at (sym c.load.ensures ∙ c.in_err-s.was)
+    let told = sym c.load.ensures ∙ c.in_err-s.was in
+    ap (λ (x : Result ℕ Refusal). made x a.out.now) (passed_on _ c.from_residual.ensures.1) ∙ missing a.state.now a.out.now a.at told
 
 pub write_head_at-requires : goal.write_head_at-requires
 write_head_at-requires c = table_opened (loaded c.args.state.now (sym c.load.ensures ∙ c.in_ok-s.was))
