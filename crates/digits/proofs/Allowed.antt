@@ -2,15 +2,26 @@
 use Prim.Native.Nat.{ℕ, suc, ◌-◌, ◌/◌, ◌%◌, ◌≤◌, ◌<◌}
 use mathlib.Core.Path.{◌≡◌, refl, sym, ap, subst, ◌∙◌}
 use mathlib.Core.List.{List, [], ◌∷◌, ◌++◌, append-nil}
+use native.Mathlib.Nat.{mod-lt}
 use native.Mathlib.Omega.{arith}
 use lib.ListN.{length, drop, set, length-append, length-set}
 use lib.Seq.{drop-cons, drop-set-lt, get_or-set_same, append_snoc}
-use Rattle.digits.specs.Signs.{Allowed, none, more}
+use Rattle.laws.specs.Places.{places}
+use Rattle.digits.specs.Signs.{Signs, Allowed, none, more}
 
 -- there is one for each place
 pub length-allowed : {base : ℕ} {gives : ℕ → ℕ → Type 0} {w v : ℕ} {signs : List ℕ} → Allowed base gives w v signs → length signs ≡ w
 length-allowed none = refl
 length-allowed (more {w} {v} {r} {signs} before here) = length-append signs (r ∷ []) ∙ omega (arith, length-allowed before)
+
+-- where each number below the base has one sign, they are the number's places
+pub allowed_places : {base : ℕ} {gives : ℕ → ℕ → Type 0} {sign : ℕ → ℕ} {w v : ℕ} {signs : List ℕ} → 0 < base → Signs base gives sign → Allowed base gives w v signs
+    → signs ≡ places base sign w v
+unfolding places
+allowed_places low one none = refl
+allowed_places {base} {sign = sign} low one (more {w} {v} {r} before here) =
+    let last : r ≡ sign (v % base) = one _ _ (mod-lt v low) here in
+    rw (allowed_places low one before, last) refl
 
 -- the last places have signs that are allowed, and v, in i places, has yet to go before them
 pub record Allowing (base : ℕ) (gives : ℕ → ℕ → Type 0) (out₀ : List ℕ) (width v₀ : ℕ) (out : List ℕ) (v i : ℕ) : Type 0 where
@@ -32,12 +43,12 @@ allowing_starts {base} {gives} {out} {width} {v} room =
 
 module _ {base : ℕ} {gives : ℕ → ℕ → Type 0} {out₀ : List ℕ} {width v₀ : ℕ} {out : List ℕ} {v i : ℕ} (w : Allowing base gives out₀ width v₀ out v i) where
   -- one more place is written, the last one first
-  pub allowing_goes_on : {r b : ℕ} → 0 < i → gives (v % base) r → b ≡ r → Allowing base gives out₀ width v₀ (set out (i - 1) b) (v / base) (i - 1)
-  allowing_goes_on {r} {b} h given same =
+  pub allowing_goes_on : {r b at : ℕ} → 0 < i → gives (v % base) r → at ≡ i - 1 → b ≡ r → Allowing base gives out₀ width v₀ (set out at b) (v / base) (i - 1)
+  allowing_goes_on {r} h given there same =
       let k : ℕ = i - 1 in
       let e : suc k ≡ i = omega arith in
       let here : k < length out = omega arith in
-      rw same
+      rw (there, same)
       (record {
         room = rw length-set (omega arith);
         done = r ∷ w.done;

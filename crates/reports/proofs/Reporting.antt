@@ -2,16 +2,13 @@
 use Rattle.std.proofs.Common.{Result, Ok, Err}
 use Prim.Native.Nat.{ℕ, ◌+◌, ◌-◌, ◌≤◌, ◌<◌, min}
 use mathlib.Core.Path.{◌≡◌, refl, sym, ap, ◌∙◌}
-use mathlib.Core.Bool.{true, false}
-use mathlib.Core.Logic.{⊎_elim}
 use mathlib.Core.List.{List, ◌++◌}
 use native.Mathlib.Omega.{arith}
-use borrow.Author.Tests.{ltb-true, ltb-false, lt-ltb, le-ltb}
+use borrow.Author.Tests.{lt-ltb, le-ltb}
 use borrow.Rule.Slice.PartMut.{mid_of, put_mid}
-use lib.Dec.{ltb}
 use lib.ListN.{length, take, drop}
-use lib.Seq.{take_all}
-use Rattle.laws.proofs.Tests.{never, decide}
+use Rattle.std.proofs.lemmas.List.{take_min}
+use Rattle.laws.proofs.Tests.{never}
 use Rattle.rules.specs.Limits.{input_max}
 use Rattle.rules.specs.Refusals.{Answer, taken, refused, number_of}
 use Rattle.rules.specs.Tables as Rules
@@ -39,13 +36,8 @@ use Rattle.reports.proofs.Replies.{length-refusal, reply-answer}
 
 pub start_is : (input : List ℕ) (k : ℕ) → k ≡ min (length input) input_max → take k input ≡ take input_max input
 start_is input k e =
-    ⊎_elim (λ (l : ltb input_max (length input) ≡ true).
-    let cut : k ≡ input_max = omega (arith, ltb-true input_max (length input) l) in
-    ap (λ (n : ℕ). take n input) cut)
-    (λ (l : ltb input_max (length input) ≡ false).
-    let short : length input ≤ input_max = ltb-false input_max (length input) l in
-    take_all k input (omega arith) ∙ sym (take_all input_max input short))
-    (decide (ltb input_max (length input)))
+    let cut : k ≡ min input_max (length input) = omega (arith, e) in
+    rw cut (take_min input_max input)
 
 -- ---- where the text goes
 

@@ -1,9 +1,10 @@
 -- `machine::form::is_formed` meets its contract: each test is one conjunct of the form.
 use Prim.Native.Nat.{◌*◌, ◌≤◌}
-use mathlib.Core.Path.{◌≡◌, refl, sym, ap, ◌∙◌}
-use mathlib.Core.Bool.{Bool, true, false, ◌&&◌}
+use mathlib.Core.Path.{◌≡◌, sym, ap, ◌∙◌}
+use mathlib.Core.Bool.{Bool, true, ◌&&◌}
 use mathlib.Core.List.{List}
 use native.Mathlib.Omega.{arith}
+use Rattle.std.proofs.Math.Bool.{and_comm}
 use lib.ListN.{take}
 use lib.Seq.{length-take-le}
 use denote.Laws.{Is}
@@ -36,13 +37,6 @@ use Rattle.machine.proofs.form.is_formed.Goals as goal
 few-of : (s : State) {b : Bool} → b ≡ padded s → b ≡ true → tasks s ≤ tasks_max
 few-of s e holds = padded-few s (to_T (sym e ∙ holds))
 
--- which of two tests stands first does not matter
-turned_round : (a b : Bool) → (a && b) ≡ (b && a)
-turned_round true true = refl
-turned_round true false = refl
-turned_round false true = refl
-turned_round false false = refl
-
 -- where the padding holds and the analysis is taken, the form is what the last tests say
 form-of : (s : State) {vs : List Val} {p : Result (List TaskNumber) Refused} {ranks : List TaskNumber} {b : Bool} → Is (row StateType.the_type) s vs → b ≡ padded s → b ≡ true
     → p ≡ priority_answer (settle (struct_tests s.table) (order (Tables.view s.table))) → p ≡ Ok ranks
@@ -56,7 +50,7 @@ form-of s {vs} {ranks = ranks} w e holds is taken =
     let accepting = taken-accepts s.table full.rows few is taken in
     let order_is = taken-ranks s.table full.rows few is taken in
     form_left s full few (sym e ∙ holds) accepting
-    ∙ ap (λ (b : Bool). b && fit s && leb s.moves (s.table.m.0 * s.clock.0) && leb s.misses (tasks_max * s.clock.0)) (turned_round (held s) (leb s.clock.0 clock_max))
+    ∙ ap (λ (b : Bool). b && fit s && leb s.moves (s.table.m.0 * s.clock.0) && leb s.misses (tasks_max * s.clock.0)) (and_comm (held s) (leb s.clock.0 clock_max))
     ∙ ap (λ (b : Bool). leb s.clock.0 clock_max && b && fit s && leb s.moves (s.table.m.0 * s.clock.0) && leb s.misses (tasks_max * s.clock.0))
     (sym (same_by (λ (x : TaskNumber). x.0) (take (tasks s) s.ranks) (take (tasks s) ranks)
     ∙ ap (λ (l : List TaskNumber). same (viewed (λ x. x.0) (tasks s) s.ranks) (viewed (λ x. x.0) (tasks s) l)) order_is))
